@@ -1,0 +1,71 @@
+-- Laws on choices by a test, and on tests joined by "and", "or" and "not".
+use mathlib.Core.Path.{_≡_, refl, sym, ap, _∙_}
+use mathlib.Core.Bool.{Bool, true, false, not, _&&_, _||_, true≢false}
+use Rattle.rules.specs.World.{if_then_else_}
+
+-- A choice has a property if each side has it under its test.
+pub if-elim {ℓ κ} : {A : Type ℓ} (P : A → Type κ) (b : Bool) {x y : A} → (b ≡ true → P x) → (b ≡ false → P y) → P (if b then x else y)
+if-elim P true f g = f refl
+if-elim P false f g = g refl
+
+-- Two choices by one test are related if their sides are.
+pub if-both {ℓ κ} : {A B : Type ℓ} (R : A → B → Type κ) (b : Bool) {x y : A} {x′ y′ : B} → (b ≡ true → R x x′) → (b ≡ false → R y y′) → R (if b then x else y) (if b then x′ else y′)
+if-both R true f g = f refl
+if-both R false f g = g refl
+
+-- A choice by d and, within it, by t; and one by both.
+pub if-within {ℓ κ μ} : {A : Type ℓ} {B : Type κ} (P : A → B → Type μ) (d t : Bool) {x y z : A} {b b′ : B} → (t ≡ true → P x b′) → (t ≡ false → P y b) → P z b → P (if d then (if t then x else y) else z) (if d && t then b′ else b)
+if-within P true true f g h = f refl
+if-within P true false f g h = g refl
+if-within P false t f g h = h
+
+pub if-yes {ℓ} : {A : Type ℓ} (b : Bool) (x y : A) → b ≡ true → (if b then x else y) ≡ x
+if-yes true x y e = refl
+if-yes false x y e = absurd (true≢false (sym e))
+
+pub if-no {ℓ} : {A : Type ℓ} (b : Bool) (x y : A) → b ≡ false → (if b then x else y) ≡ y
+if-no true x y e = absurd (true≢false e)
+if-no false x y e = refl
+
+pub clash {ℓ} : {A : Type ℓ} → true ≡ false → A
+clash e = absurd (true≢false e)
+
+pub and-left : (a b : Bool) → (a && b) ≡ true → a ≡ true
+and-left true b e = refl
+and-left false b e = clash (sym e)
+
+pub and-right : (a b : Bool) → (a && b) ≡ true → b ≡ true
+and-right true b e = e
+and-right false b e = clash (sym e)
+
+pub and-both : (a b : Bool) → a ≡ true → b ≡ true → (a && b) ≡ true
+and-both true b e f = f
+and-both false b e f = clash (sym e)
+
+-- Where both do not hold and the first does, the second does not.
+pub and-rest : (a b : Bool) → (a && b) ≡ false → a ≡ true → b ≡ false
+and-rest true b e f = e
+and-rest false b e f = clash (sym f)
+
+pub or-left : (a b : Bool) → a ≡ true → (a || b) ≡ true
+or-left true b e = refl
+or-left false b e = clash (sym e)
+
+pub or-right : (a b : Bool) → b ≡ true → (a || b) ≡ true
+or-right true b e = refl
+or-right false b e = e
+
+-- Where one of two holds and the first does not, the second does.
+pub or-rest : (a b : Bool) → (a || b) ≡ true → a ≡ false → b ≡ true
+or-rest true b e f = clash f
+or-rest false b e f = e
+
+
+pub or-first : (a b : Bool) → (a || b) ≡ true → b ≡ false → a ≡ true
+or-first true b e f = refl
+or-first false b e f = clash (sym e ∙ f)
+
+-- What holds by one of two holds by one of two weaker ones.
+pub or-map : (a b c : Bool) → (b ≡ true → c ≡ true) → (a || b) ≡ true → (a || c) ≡ true
+or-map true b c f e = refl
+or-map false b c f e = f e

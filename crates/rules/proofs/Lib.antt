@@ -1,0 +1,9 @@
+pub mod Choice
+pub mod Widths
+pub mod Examples
+pub mod Latch
+pub mod Received
+pub mod Preserved
+pub mod Soundness
+pub mod Same
+pub mod Broken

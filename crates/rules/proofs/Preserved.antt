@@ -1,0 +1,320 @@
+-- The theorem `preserved`: every event keeps a sound world sound, and its lists as long as they were.
+use Prim.Native.Nat.{ℕ, zero, suc, _+_, _-_, _*_, _/_, _%_, _≤_, _<_}
+use mathlib.Core.Path.{_≡_, refl, sym, ap, _∙_}
+use mathlib.Core.Bool.{Bool, true, false, not, _&&_, _||_}
+use mathlib.Core.List.{List}
+use native.Mathlib.Nat.{zero-mod, mod-lt}
+use native.Mathlib.Omega.{arith}
+use lib.ListN.{length, getD, set, length-set}
+use lib.Dec.{eqb, leb, ltb, lit<}
+use borrow.Author.Tests.{leb-true, leb-false, not-true, not-false}
+use Rattle.rules.specs.World.{Row, Kind, Level, Event, Pins, Input, Command, Registers, Cycle, State, World, if_then_else_, bit, number, withPins, withSelection, withState}
+use Rattle.rules.specs.Device.{Widths}
+use Rattle.rules.specs.Instruction.{facts, changes, busy}
+use Rattle.rules.specs.Receive.{commandAfter, addressAfter, latchAfter, inputAfter, rise}
+use Rattle.rules.specs.Send.{isSending, shownAddress, fall}
+use Rattle.rules.specs.Judge.{storable, isDone, startOf, judged}
+use Rattle.rules.specs.Cycle.{written, waited}
+use Rattle.rules.specs.Event.{pinsAfter, selected, deselected, powered, decodes, react, settled, step, refusal, next, after}
+use Rattle.rules.specs.Sound.{SoundInput, SoundCycle, Off, Unsettled, Sound, Lent, Preserved}
+use Rattle.rules.proofs.Choice.{if-elim, if-both, if-within, clash, and-left, and-right, and-both, and-rest, or-left, or-right}
+use Rattle.rules.proofs.Widths.{page-below, start-aligned}
+use Rattle.rules.proofs.Received.{input-sound, whole-sound, bit-sound, address-inside, shown-inside, command-turned, latch-long, latch-marks}
+
+-- The world after an event but for the hold rule.
+abbrev pub unheld : Row → Event → World → World
+unheld row e w = let r = react row e w in withState (withPins (pinsAfter e (w .state .pins)) (r .state)) r
+
+-- A world with one event's pin set, and nothing else done.
+abbrev pub pinned : Event → World → World
+pinned e w = withState (withPins (pinsAfter e (w .state .pins)) (w .state)) w
+
+-- The hold rule.
+pub settled-sound : {row : Row} {w : World} → Unsettled row w → Sound row (withState (settled (w .state)) w)
+settled-sound {row} {w} h =
+    let s = w .state in
+    let x = s .selection in
+    record {
+      unsettled =
+        record {
+          input = h .input;
+          inside = h .inside;
+          stored = h .stored;
+          cycle = h .cycle;
+          off = λ o. let f = h .off o in record { held = rw o (f .held); bits = f .bits; bytes = f .bytes; z = f .z };
+          low = h .low;
+          saw = h .saw;
+          turned = h .turned;
+          marks = h .marks
+        };
+      holds = λ on low. rw (on, low)
+    }
+
+-- Pins alone change.
+pins-sound : {row : Row} {w : World} (p : Pins) → Unsettled row w → (w .state .selection .selected ≡ true → p .s ≡ false)
+    → (w .state .selection .selected ≡ true → p .w ≡ false → w .state .selection .seen ≡ true) → Unsettled row (withState (withPins p (w .state)) w)
+pins-sound p h low saw =
+    record {
+      input = h .input;
+      inside = h .inside;
+      stored = h .stored;
+      cycle = h .cycle;
+      off = h .off;
+      low = low;
+      saw = saw;
+      turned = h .turned;
+      marks = h .marks
+    }
+
+-- C rises.
+module _ {row : Row} (v : Widths row) (w : World) (h : Unsettled row w) (l : Lent row w) where
+  rise-sound : Unsettled row (unheld row (Event.Clock true) w)
+  unfolding react rise
+  rise-sound =
+      let s = w .state in
+      let b = s .input .value * 2 + number (s .pins .d) in
+      let d = decodes s && not (s .pins .c) in
+      let t = eqb (s .input .bits) 7 in
+      record {
+        input = if-elim SoundInput d (λ _. input-sound (s .input) (s .pins .d) (h .input)) (λ _. h .input);
+        inside = if-elim (λ (a : ℕ). a < row .cells) (d && t) (λ _. address-inside v b s (h .inside)) (λ _. h .inside);
+        stored = h .stored;
+        cycle = h .cycle;
+        off = λ o. let f = h .off o in record { held = f .held; bits = rw o (f .bits); bytes = rw o (f .bytes); z = f .z };
+        low = h .low;
+        saw = h .saw;
+        turned = λ run.
+          if-within (λ (i : Input) (c : Command). (i .bytes ≡ 0 → ⊥) → facts (c .instruction) .taken ≡ false → c .away ≡ true) d t
+          (λ _ _ f. command-turned row b s (h .turned run) run f)
+          (λ _. h .turned run)
+          (h .turned run);
+        marks = if-elim (λ (m : List ℕ). (i : ℕ) → getD m (row .page + i) 0 ≤ 1) (d && t) (λ _. latch-marks v b w (l .latch) (h .marks)) (λ _. h .marks)
+      }
+
+  rise-lent : Lent row (unheld row (Event.Clock true) w)
+  unfolding react rise
+  rise-lent =
+      let s = w .state in
+      record {
+        cells = l .cells;
+        identification = l .identification;
+        latch =
+          if-elim (λ (m : List ℕ). length m ≡ row .page + row .page) (decodes s && not (s .pins .c) && eqb (s .input .bits) 7)
+          (λ _. latch-long v (s .input .value * 2 + number (s .pins .d)) w (l .latch) ∙ l .latch)
+          (λ _. l .latch)
+      }
+
+  fall-sound : Unsettled row (unheld row (Event.Clock false) w)
+  unfolding react fall
+  fall-sound =
+      let s = w .state in
+      record {
+        input = h .input;
+        inside = if-elim (λ (a : ℕ). a < row .cells) (decodes s && s .pins .c && isSending row s) (λ _. shown-inside v s (h .inside)) (λ _. h .inside);
+        stored = h .stored;
+        cycle = h .cycle;
+        off = λ o. let f = h .off o in record { held = f .held; bits = f .bits; bytes = f .bytes; z = rw o (f .z) };
+        low = h .low;
+        saw = h .saw;
+        turned = h .turned;
+        marks = h .marks
+      }
+
+-- S falls or rises, W, power: what a selection begins and ends with.
+none-received : (last : ℕ) → SoundInput (record { bits = 0; value = 0; bytes = 0; last = last })
+none-received last = record { few = omega arith; small = lit< tt; counted = omega arith }
+
+-- Any state, once it is deselected, needs only what it stores to be sound.
+pub deselected-sound : {row : Row} {w : World} (s : State) → Unsettled row w → s .place .address ≡ w .state .place .address
+    → storable row (s .registers .status) ≡ s .registers .status
+    → SoundCycle row (s .cycle .kind) (s .cycle .next) (s .place .start) (s .place .left)
+    → Unsettled row (withState (deselected s) w)
+deselected-sound {row} {w} s h same stored cycle =
+    record {
+      input = none-received (s .input .last);
+      inside = rw same (h .inside);
+      stored = stored;
+      cycle = cycle;
+      off = λ _. record { held = refl; bits = refl; bytes = refl; z = refl };
+      low = λ on. clash (sym on);
+      saw = λ on. clash (sym on);
+      turned = λ _ none. absurd (none refl);
+      marks = h .marks
+    }
+
+-- The stored bits of a byte are bits that the device has.
+again : (srwd b : Bool) (q : ℕ) → q < 4 → (srwd ≡ false → b ≡ false)
+    → _≡_ {A = ℕ} (number (srwd && eqb ((number b * 128 + q * 4) / 128 % 2) 1) * 128 + (number b * 128 + q * 4) / 4 % 4 * 4) (number b * 128 + q * 4)
+again true true q h f = let e : (128 + q * 4) / 128 % 2 ≡ 1 = omega arith in rw e (omega arith)
+again true false q h f = let e : (0 + q * 4) / 128 % 2 ≡ 0 = omega arith in rw e (omega arith)
+again false true q h f = clash (f refl)
+again false false q h f = omega arith
+
+pub storable-only : (row : Row) (v : ℕ) → storable row (storable row v) ≡ storable row v
+storable-only row v = again (row .srwd) (row .srwd && bit v 7) (v / 4 % 4) (mod-lt (v / 4) (lit< tt)) (λ e. rw e)
+
+-- What a done write starts is a sound cycle.
+module _ {row : Row} (v : Widths row) (w : World) (h : Unsettled row w) where
+  start-sound : (k : Kind) → (startOf row (w .state) k % row .page ≡ 0) × (startOf row (w .state) k < row .cells) × (changes k .identification ≡ true → startOf row (w .state) k ≡ 0)
+  start-sound Kind.None = (h .cycle .aligned, h .cycle .inside, λ e. clash (sym e))
+  start-sound Kind.Array = (start-aligned row (w .state .place .address), omega (arith, h .inside), λ e. clash (sym e))
+  start-sound Kind.Identification = (zero-mod (row .page), omega (arith, page-below v), λ _. refl)
+  start-sound Kind.Status = (h .cycle .aligned, h .cycle .inside, λ e. clash (sym e))
+  start-sound Kind.Lock = (h .cycle .aligned, h .cycle .inside, λ e. clash (sym e))
+
+  begun-sound : (begins : Bool) (k : Kind) (b : ℕ) → (begins ≡ true → changes k .runs ≡ true)
+      → SoundCycle row (if begins then k else w .state .cycle .kind) (if begins && changes k .status then storable row b else w .state .cycle .next)
+      (if begins then startOf row (w .state) k else w .state .place .start) (if begins then row .time else w .state .place .left)
+  begun-sound false k b f = h .cycle
+  begun-sound true k b f =
+      let t = start-sound k in
+      record {
+        only = if-elim (λ (n : ℕ). storable row n ≡ n) (changes k .status) (λ _. storable-only row b) (λ _. h .cycle .only);
+        runs = λ _. (v .lasts, omega arith);
+        rests = λ e. clash (sym (f refl) ∙ e);
+        aligned = t .0;
+        inside = t .1;
+        first = t .2
+      }
+
+  select-sound : (b : Bool) → Unsettled row (unheld row (Event.Select b) w)
+  unfolding react judged
+  select-sound true =
+      let s = w .state in
+      let k = facts (s .command .instruction) .starts in
+      let begins = isDone row s && changes k .runs in
+      if-elim (λ (x : State). Unsettled row (withState (withPins (pinsAfter (Event.Select true) (s .pins)) x) w)) (s .selection .selected && not (s .pins .s))
+      (λ _. deselected-sound {w = w} (withPins (pinsAfter (Event.Select true) (s .pins)) (judged row s)) h refl (h .stored)
+        (begun-sound begins k (s .input .last) (λ e. and-right (isDone row s) (changes k .runs) e)))
+      (λ e. pins-sound (pinsAfter (Event.Select true) (s .pins)) h
+        (λ on. sym (not-false (s .pins .s) (and-rest (s .selection .selected) (not (s .pins .s)) e on)) ∙ h .low on)
+        (h .saw))
+  select-sound false =
+      let s = w .state in
+      if-elim (λ (x : State). Unsettled row (withState (withPins (pinsAfter (Event.Select false) (s .pins)) x) w)) (s .pins .s)
+      (λ _.
+        record {
+          input = none-received 0;
+          inside = omega (arith, page-below v);
+          stored = h .stored;
+          cycle = h .cycle;
+          off = λ o. clash o;
+          low = λ _. refl;
+          saw = λ _ e. ap not e;
+          turned = λ _ none. absurd (none refl);
+          marks = h .marks
+        })
+      (λ _. pins-sound (pinsAfter (Event.Select false) (s .pins)) h (λ _. refl) (h .saw))
+
+-- W goes low.
+protect-sound : {row : Row} {w : World} → Unsettled row w → Unsettled row (unheld row (Event.Protect false) w)
+unfolding react
+protect-sound {row} {w} h =
+    record {
+      input = h .input;
+      inside = h .inside;
+      stored = h .stored;
+      cycle = h .cycle;
+      off = λ o. let f = h .off o in record { held = f .held; bits = f .bits; bytes = f .bytes; z = f .z };
+      low = h .low;
+      saw = λ on _. or-left (w .state .selection .selected) (w .state .selection .seen) on;
+      turned = h .turned;
+      marks = h .marks
+    }
+
+-- A cycle ends, or goes on with less time left.
+written-long : (n page : ℕ) (l : List ℕ) (a : ℕ) (m : List ℕ) → length (written n page l a m) ≡ length m
+unfolding written
+written-long zero page l a m = refl
+written-long (suc n) page l a m =
+    if-elim (λ (r : List ℕ). length r ≡ length m) (eqb (getD l (page + n) 0) 1)
+    (λ _. length-set (written n page l a m) (a + n) (getD l n 0) ∙ written-long n page l a m)
+    (λ _. written-long n page l a m)
+
+module _ (row : Row) (w : World) (n : ℕ) where
+  ends : Bool
+  ends = busy (w .state) && leb (w .state .place .left) n
+
+  left-sound : (e b : Bool) (k : Kind) → (b && leb (w .state .place .left) n) ≡ e → changes k .runs ≡ b
+      → SoundCycle row k (w .state .cycle .next) (w .state .place .start) (w .state .place .left)
+      → SoundCycle row (if e then Kind.None else k) (w .state .cycle .next) (w .state .place .start) (w .state .place .left - n)
+  left-sound true b k e f h =
+      let short = leb-true (w .state .place .left) n (and-right b (leb (w .state .place .left) n) e) in
+      record {
+        only = h .only;
+        runs = λ r. clash (sym r);
+        rests = λ _. omega arith;
+        aligned = h .aligned;
+        inside = h .inside;
+        first = λ r. clash (sym r)
+      }
+  left-sound false b k e f h =
+      let long : b ≡ true → n < w .state .place .left = λ r. leb-false (w .state .place .left) n (and-rest b (leb (w .state .place .left) n) e r) in
+      record {
+        only = h .only;
+        runs = λ r. let t = h .runs r in let m = long (sym f ∙ r) in (omega arith, omega arith);
+        rests = λ r. let t = h .rests r in omega arith;
+        aligned = h .aligned;
+        inside = h .inside;
+        first = h .first
+      }
+
+  wait-sound : Unsettled row w → Unsettled row (unheld row (Event.Wait n) w)
+  unfolding react waited ends
+  wait-sound h =
+      let s = w .state in
+      record {
+        input = h .input;
+        inside = h .inside;
+        stored = if-elim (λ (v : ℕ). storable row v ≡ v) (ends && changes (s .cycle .kind) .status) (λ _. h .cycle .only) (λ _. h .stored);
+        cycle = left-sound ends (busy s) (s .cycle .kind) refl refl (h .cycle);
+        off = h .off;
+        low = h .low;
+        saw = h .saw;
+        turned = if-elim (λ (k : Kind). changes k .runs ≡ true → (s .input .bytes ≡ 0 → ⊥) → facts (s .command .instruction) .taken ≡ false → s .command .away ≡ true) ends
+          (λ _ e. clash (sym e)) (λ _ e. h .turned e);
+        marks = h .marks
+      }
+
+  wait-lent : Lent row w → Lent row (unheld row (Event.Wait n) w)
+  unfolding react waited ends
+  wait-lent l =
+      let s = w .state in
+      record {
+        cells = if-elim (λ (m : List ℕ). length m ≡ row .cells) (ends && changes (s .cycle .kind) .cells) (λ _. written-long (row .page) (row .page) (w .latch) (s .place .start) (w .cells) ∙ l .cells) (λ _. l .cells);
+        identification = if-elim (λ (m : List ℕ). length m ≡ row .page) (ends && changes (s .cycle .kind) .identification) (λ _. written-long (row .page) (row .page) (w .latch) 0 (w .identification) ∙ l .identification) (λ _. l .identification);
+        latch = l .latch
+      }
+
+unheld-sound : {row : Row} → Widths row → (e : Event) (w : World) → Unsettled row w → Lent row w → Unsettled row (unheld row e w)
+unfolding react
+unheld-sound v (Event.Clock true) w h l = rise-sound v w h l
+unheld-sound v (Event.Clock false) w h l = fall-sound v w h l
+unheld-sound v (Event.Data b) w h l = pins-sound (pinsAfter (Event.Data b) (w .state .pins)) h (h .low) (h .saw)
+unheld-sound v (Event.Select b) w h l = select-sound v w h b
+unheld-sound v (Event.Hold b) w h l = pins-sound (pinsAfter (Event.Hold b) (w .state .pins)) h (h .low) (h .saw)
+unheld-sound v (Event.Protect true) w h l = pins-sound (pinsAfter (Event.Protect true) (w .state .pins)) h (h .low) (λ _ e. clash e)
+unheld-sound v (Event.Protect false) w h l = protect-sound h
+unheld-sound v (Event.Wait n) w h l = wait-sound _ w n h
+unheld-sound v Event.Power w h l = deselected-sound {w = w} (powered (w .state)) h refl (h .stored) (h .cycle)
+
+kept-lent : {row : Row} {w : World} (s : State) → Lent row w → Lent row (withState s w)
+kept-lent s l = record { cells = l .cells; identification = l .identification; latch = l .latch }
+
+unheld-lent : {row : Row} → Widths row → (e : Event) (w : World) → Unsettled row w → Lent row w → Lent row (unheld row e w)
+unfolding react fall
+unheld-lent v (Event.Clock true) w h l = rise-lent v w h l
+unheld-lent v (Event.Clock false) w h l = kept-lent _ l
+unheld-lent v (Event.Data b) w h l = kept-lent _ l
+unheld-lent v (Event.Select true) w h l = kept-lent _ l
+unheld-lent v (Event.Select false) w h l = kept-lent _ l
+unheld-lent v (Event.Hold b) w h l = kept-lent _ l
+unheld-lent v (Event.Protect true) w h l = kept-lent _ l
+unheld-lent v (Event.Protect false) w h l = kept-lent _ l
+unheld-lent v (Event.Wait n) w h l = wait-lent _ w n l
+unheld-lent v Event.Power w h l = kept-lent _ l
+
+pub preserved : Preserved
+unfolding step
+preserved row v e w h l =
+    (settled-sound (unheld-sound v e w (h .unsettled) l), kept-lent _ (unheld-lent v e w (h .unsettled) l))

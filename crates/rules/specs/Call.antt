@@ -1,0 +1,72 @@
+-- 01, "Numbers given back": the whole outcome of each public call, for every input. Refusals are read from top to bottom.
+use Rattle.rules.specs.World.{ℕ, _+_, _-_, _%_, Bool, not, _&&_, _||_, List, [], take, drop, length, eqb, leb, if_then_else_}
+use Rattle.rules.specs.World.{Row, Event, State, World}
+use Rattle.rules.specs.Device.{isDevice, rowOf, preparedState, prepared}
+use Rattle.rules.specs.Sound.{isSound}
+use Rattle.rules.specs.Event.{step, answer, refusal}
+use Rattle.rules.specs.Trace.{answerByte, Progress, run}
+
+-- 1 to 4: no such device; cells, identification page or latch of a wrong length.
+unfoldable pub lentRefusal : ℕ → World → ℕ
+lentRefusal device w =
+    if not (isDevice device) then 1
+    else if not (eqb (length (w .cells)) (rowOf device .cells)) then 2
+    else if not (eqb (length (w .identification)) (rowOf device .page)) then 3
+    else if not (eqb (length (w .latch)) (rowOf device .page + rowOf device .page)) then 4
+    else 0
+
+-- 5 then: the state not sound, or a mark not 0 or 1.
+unfoldable pub worldRefusal : ℕ → World → ℕ
+worldRefusal device w =
+    if not (eqb (lentRefusal device w) 0) then lentRefusal device w
+    else if not (isSound (rowOf device) w) then 5
+    else 0
+
+-- Preparing fills the lent buffers, and gives the prepared state, refused or not: it is one state for every device.
+pub record Prepared : Type 0 where
+  pub number : ℕ
+  pub world : World
+
+unfoldable pub prepareOutcome : ℕ → List ℕ → List ℕ → List ℕ → Prepared
+prepareOutcome device cells identification latch =
+    let lent : World = record { state = preparedState; cells = cells; identification = identification; latch = latch } in
+    let n = lentRefusal device lent in
+    record { number = n; world = if eqb n 0 then prepared (rowOf device) else lent }
+
+-- A single event: 1 to 5, then 11. A refused event answers 2 and changes nothing.
+pub record Replied : Type 0 where
+  pub number : ℕ
+  pub answer : ℕ
+  pub world : World
+
+unfoldable pub eventOutcome : ℕ → World → Event → Replied
+eventOutcome device w e =
+    let n = if not (eqb (worldRefusal device w) 0) then worldRefusal device w else refusal e (w .state) in
+    let after = step (rowOf device) e w in
+    record { number = n; answer = if eqb n 0 then answerByte (answer (after .state)) else 2; world = if eqb n 0 then after else w }
+
+-- A trace: 1 to 5 with no record done, else the run.
+unfoldable pub runOutcome : ℕ → World → List ℕ → List ℕ → ℕ → Progress
+runOutcome device w trace answers limit =
+    let n = worldRefusal device w in
+    run (if eqb n 0 then limit else 0) (rowOf device) trace (record { number = n; taken = 0; done = 0; world = w; answers = answers })
+
+-- A page shown without copying: the cell page holding an address (1, 2, 13), and the identification page (1, 3). A refusal gives an empty part.
+pub record Shown : Type 0 where
+  pub number : ℕ
+  pub part : List ℕ
+
+unfoldable pub cellPageOutcome : ℕ → List ℕ → ℕ → Shown
+cellPageOutcome device cells address =
+    let row = rowOf device in
+    let n : ℕ =
+    if not (isDevice device) then 1
+    else if not (eqb (length cells) (row .cells)) then 2
+    else if leb (row .cells) address then 13
+    else 0 in
+    record { number = n; part = if eqb n 0 then take (row .page) (drop (address - address % row .page) cells) else [] }
+
+unfoldable pub identificationPageOutcome : ℕ → List ℕ → Shown
+identificationPageOutcome device identification =
+    let n : ℕ = if not (isDevice device) then 1 else if not (eqb (length identification) (rowOf device .page)) then 3 else 0 in
+    record { number = n; part = if eqb n 0 then identification else [] }

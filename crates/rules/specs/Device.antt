@@ -1,0 +1,74 @@
+-- The device table, and preparing a device.
+use Rattle.rules.specs.World.{ℕ, suc, _-_, _*_, _^_, _≤_, _<_, _≡_, Bool, true, false, _&&_, List, [], _∷_, _++_, getD, length, replicate, eqb, leb, if_then_else_}
+use Rattle.rules.specs.World.{Row, Instruction, Kind, Level, State, World}
+
+-- 01, "What the bench models": one row for each device. The last column says whether the identification page starts with ST's code.
+abbrev pub device : ℕ → ℕ → ℕ → ℕ → Bool → Bool → Row
+device cells page width time srwd coded = record { cells = cells; page = page; width = width; time = time; srwd = srwd; coded = coded }
+
+--               cells page address-bytes write-time SRWD code
+abbrev pub m95040 : Row
+m95040 = device 512 16 1 5000 false false
+
+abbrev pub m95128 : Row
+m95128 = device 16_384 64 2 5000 true false
+
+abbrev pub m95m01 : Row
+m95m01 = device 131_072 256 3 4000 true false
+
+abbrev pub m95m02 : Row
+m95m02 = device 262_144 256 3 5000 true true
+
+abbrev pub table : List Row
+table = m95040 ∷ m95128 ∷ m95m01 ∷ m95m02 ∷ []
+
+-- Whether there is a device of this number, and its row (of no device: device 1's).
+abbrev pub isDevice : ℕ → Bool
+isDevice n = leb 1 n && leb n (length table)
+
+abbrev pub rowOf : ℕ → Row
+rowOf n = getD table (n - 1) m95040
+
+-- What 01 says of device 1 in codes, in W and in the lock bit holds where the address is one byte.
+abbrev pub single : Row → Bool
+single row = eqb (row .width) 1
+
+-- The facts on a row that every theorem goes by: cells and pages are powers of two, and so on. No theorem asks for more.
+pub record Widths (row : Row) : Type 0 where
+  pub cellBits : ℕ
+  pub pageBits : ℕ
+  pub cells : row .cells ≡ 2 ^ cellBits
+  pub page : row .page ≡ 2 ^ pageBits
+  pub codeFits : 3 ≤ row .page
+  pub smaller : pageBits < cellBits
+  pub oneByte : 1 ≤ row .width
+  pub threeBytes : row .width ≤ 3
+  pub lasts : 1 ≤ row .time
+
+-- 01, "The device's state", preparing: no cycle, unlocked, C and D low, S, HOLD and W high.
+abbrev pub preparedState : State
+preparedState =
+    record {
+      place = record { address = 0; start = 0; left = 0 };
+      pins = record { c = false; d = false; s = true; hold = true; w = true };
+      selection = record { selected = false; held = false; seen = false };
+      input = record { bits = 0; value = 0; bytes = 0; last = 0 };
+      command = record { instruction = Instruction.Unknown; away = false };
+      output = record { sending = 0; q = Level.Z };
+      registers = record { status = 0; wel = false; locked = false };
+      cycle = record { kind = Kind.None; next = 0 };
+      filler = record { first = 0; second = 0; third = 0 };
+    }
+
+-- The code that ST writes at the start of the identification page, where it does.
+abbrev pub code : Row → List ℕ
+code row = if row .coded then 0x20 ∷ 0x00 ∷ 0x12 ∷ [] else []
+
+unfoldable pub prepared : Row → World
+prepared row =
+    record {
+      state = preparedState;
+      cells = replicate (row .cells) 0xFF;
+      identification = code row ++ replicate (row .page - length (code row)) 0xFF;
+      latch = replicate (row .page * 2) 0;
+    }

@@ -1,0 +1,95 @@
+-- 01, "Events": each event, the hold rule after it, and what Q answers.
+use Rattle.rules.specs.World.{ℕ, Bool, true, false, not, _&&_, _||_, List, [], _∷_, eqb, if_then_else_}
+use Rattle.rules.specs.World.{Row, Instruction, Level, Event, Pins, State, World, withPins, withSelection, withStored, withState}
+use Rattle.rules.specs.Instruction.{busy}
+use Rattle.rules.specs.Receive.{rise}
+use Rattle.rules.specs.Send.{fall}
+use Rattle.rules.specs.Judge.{judged}
+use Rattle.rules.specs.Cycle.{waited}
+
+-- An event sets one pin to a level, or none.
+abbrev pub pinsAfter : Event → Pins → Pins
+pinsAfter (Event.Clock b) p = record { c = b; d = p .d; s = p .s; hold = p .hold; w = p .w }
+pinsAfter (Event.Data b) p = record { c = p .c; d = b; s = p .s; hold = p .hold; w = p .w }
+pinsAfter (Event.Select b) p = record { c = p .c; d = p .d; s = b; hold = p .hold; w = p .w }
+pinsAfter (Event.Hold b) p = record { c = p .c; d = p .d; s = p .s; hold = b; w = p .w }
+pinsAfter (Event.Protect b) p = record { c = p .c; d = p .d; s = p .s; hold = p .hold; w = b }
+pinsAfter (Event.Wait n) p = p
+pinsAfter Event.Power p = p
+
+-- Selected, nothing received, W seen low exactly if it is low.
+abbrev pub selected : State → State
+selected s =
+    withSelection 0 (record { selected = true; held = false; seen = not (s .pins .w) }) (record { bits = 0; value = 0; bytes = 0; last = 0 })
+    (record { instruction = Instruction.Unknown; away = false }) (record { sending = 0; q = Level.Z }) s
+
+-- Not selected, not held, nothing received, Q at Z.
+abbrev pub deselected : State → State
+deselected s =
+    withSelection (s .place .address) (record { selected = false; held = false; seen = s .selection .seen })
+    (record { bits = 0; value = 0; bytes = 0; last = s .input .last }) (s .command) (record { sending = s .output .sending; q = Level.Z }) s
+
+-- W has gone low in a selection: it was seen low, whatever comes after.
+abbrev pub sawLow : State → State
+sawLow s =
+    withSelection (s .place .address) (record { selected = s .selection .selected; held = s .selection .held; seen = s .selection .selected || s .selection .seen })
+    (s .input) (s .command) (s .output) s
+
+-- WEL 0, and not selected.
+abbrev pub powered : State → State
+powered s =
+    deselected
+    (withStored (record { status = s .registers .status; wel = false; locked = s .registers .locked }) (s .cycle) (s .place .start) (s .place .left) s)
+
+-- An edge of C counts while selected and not held: it is decoded.
+abbrev pub decodes : State → Bool
+decodes s = s .selection .selected && not (s .selection .held)
+
+-- What an event does besides setting its pin. Setting the level that a pin has is no edge.
+unfoldable pub react : Row → Event → World → World
+react row (Event.Clock true) w = rise row (decodes (w .state) && not (w .state .pins .c)) w
+react row (Event.Clock false) w = fall row (decodes (w .state) && w .state .pins .c) w
+react row (Event.Data b) w = w
+react row (Event.Select true) w = withState (if w .state .selection .selected && not (w .state .pins .s) then deselected (judged row (w .state)) else w .state) w
+react row (Event.Select false) w = withState (if w .state .pins .s then selected (w .state) else w .state) w
+react row (Event.Hold b) w = w
+react row (Event.Protect true) w = w
+react row (Event.Protect false) w = withState (sawLow (w .state)) w
+react row (Event.Wait n) w = waited row n w
+react row Event.Power w = withState (powered (w .state)) w
+
+-- Hold: after each event, while selected and C low, held exactly if HOLD is low; while C is high, unchanged.
+abbrev pub settled : State → State
+settled s =
+    let x = s .selection in
+    withSelection (s .place .address)
+    (record { selected = x .selected; held = if x .selected && not (s .pins .c) then not (s .pins .hold) else x .held; seen = x .seen })
+    (s .input) (s .command) (s .output) s
+
+unfoldable pub step : Row → Event → World → World
+step row e w = let r = react row e w in withState (settled (withPins (pinsAfter e (w .state .pins)) (r .state))) r
+
+-- Q is Z while held, and the kept bit comes back.
+abbrev pub answer : State → Level
+answer s = if s .selection .held then Level.Z else s .output .q
+
+-- Power during a cycle is refused with 11: nothing changes.
+abbrev pub isPower : Event → Bool
+isPower (Event.Clock b) = false
+isPower (Event.Data b) = false
+isPower (Event.Select b) = false
+isPower (Event.Hold b) = false
+isPower (Event.Protect b) = false
+isPower (Event.Wait n) = false
+isPower Event.Power = true
+
+abbrev pub refusal : Event → State → ℕ
+refusal e s = if isPower e && busy s then 11 else 0
+
+-- The world after an event, refused or not, and after any number of them.
+unfoldable pub next : Row → Event → World → World
+next row e w = if eqb (refusal e (w .state)) 0 then step row e w else w
+
+abbrev pub after : Row → List Event → World → World
+after row [] w = w
+after row (e ∷ es) w = after row es (next row e w)

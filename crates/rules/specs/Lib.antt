@@ -1,0 +1,14 @@
+pub mod World
+pub mod Device
+pub mod Instruction
+pub mod Receive
+pub mod Send
+pub mod Judge
+pub mod Cycle
+pub mod Event
+pub mod Sound
+pub mod Trace
+pub mod Call
+pub mod Program
+pub mod Examples
+pub mod Selections

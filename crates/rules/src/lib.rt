@@ -1,0 +1,130 @@
+// The types of the bench: a device's row, its state in groups, instructions, cycles, output levels, events.
+// The rules of specs/ are functions on these, and the product's code runs on them.
+
+// One row of the device table (document 01, "What the bench models").
+pub struct Row {
+    pub cells: usize,
+    pub page: usize,
+    pub width: usize,
+    pub time: usize,
+    pub srwd: bool,
+    pub coded: bool,
+}
+
+// The instructions of Table 6. Unknown stands for a code that is in no list, and for none received yet.
+pub enum Instruction {
+    Wren,
+    Wrdi,
+    Rdsr,
+    Wrsr,
+    Read,
+    Write,
+    Rdid,
+    Rdls,
+    Wrid,
+    Lid,
+    Unknown,
+}
+
+// What a running write cycle will change.
+pub enum Kind {
+    None,
+    Array,
+    Identification,
+    Status,
+    Lock,
+}
+
+// A level of the output Q.
+pub enum Level {
+    Low,
+    High,
+    Z,
+}
+
+// One event at the pins, in time or of the power. No pin but these five can be written.
+pub enum Event {
+    Clock(bool),
+    Data(bool),
+    Select(bool),
+    Hold(bool),
+    Protect(bool),
+    Wait(u32),
+    Power,
+}
+
+// The numbers that can be large: the address, and the running cycle's page start and microseconds left.
+pub struct Place {
+    pub address: usize,
+    pub start: usize,
+    pub left: usize,
+}
+
+// The levels of C, D, S, HOLD and W; true is high.
+pub struct Pins {
+    pub c: bool,
+    pub d: bool,
+    pub s: bool,
+    pub hold: bool,
+    pub w: bool,
+}
+
+// Selected or not, held or not, and whether W was seen low in this selection.
+pub struct Selection {
+    pub selected: bool,
+    pub held: bool,
+    pub seen: bool,
+}
+
+// What came in: bits of the current byte, their value, whole bytes (to 6), and the last whole byte.
+pub struct Input {
+    pub bits: u8,
+    pub value: u8,
+    pub bytes: u8,
+    pub last: u8,
+}
+
+// The instruction, and whether it was turned away.
+pub struct Command {
+    pub instruction: Instruction,
+    pub away: bool,
+}
+
+// The byte being sent, and the level of Q, kept while held.
+pub struct Output {
+    pub sending: u8,
+    pub q: Level,
+}
+
+// The stored status bits, WEL, and the lock.
+pub struct Registers {
+    pub status: u8,
+    pub wel: bool,
+    pub locked: bool,
+}
+
+// The running cycle, and its new status bits.
+pub struct Cycle {
+    pub kind: Kind,
+    pub next: u8,
+}
+
+// Three bytes that mean nothing: with them the State fills whole words and has no padding.
+pub struct Filler {
+    pub first: u8,
+    pub second: u8,
+    pub third: u8,
+}
+
+// The device's state: three words of numbers, then three words of small fields.
+pub struct State {
+    pub place: Place,
+    pub pins: Pins,
+    pub selection: Selection,
+    pub input: Input,
+    pub command: Command,
+    pub output: Output,
+    pub registers: Registers,
+    pub cycle: Cycle,
+    pub filler: Filler,
+}
