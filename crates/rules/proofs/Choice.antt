@@ -1,6 +1,6 @@
 -- Laws on choices by a test, and on tests joined by "and", "or" and "not".
-use mathlib.Core.Path.{_≡_, refl, sym, ap, _∙_}
-use mathlib.Core.Bool.{Bool, true, false, not, _&&_, _||_, true≢false}
+use mathlib.Core.Path.{_≡_, refl, sym, _∙_}
+use mathlib.Core.Bool.{Bool, true, false, _&&_, _||_, true≢false}
 use Rattle.rules.specs.World.{if_then_else_}
 
 -- A choice has a property if each side has it under its test.
@@ -59,7 +59,6 @@ or-right false b e = e
 pub or-rest : (a b : Bool) → (a || b) ≡ true → a ≡ false → b ≡ true
 or-rest true b e f = clash f
 or-rest false b e f = e
-
 
 pub or-first : (a b : Bool) → (a || b) ≡ true → b ≡ false → a ≡ true
 or-first true b e f = refl

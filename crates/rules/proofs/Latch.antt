@@ -1,8 +1,8 @@
 -- Two latches that will write the same: equal marks, and equal data where marked.
 use Prim.Native.Nat.{ℕ, zero, suc, _+_, _%_, _≤_, _<_}
-use mathlib.Core.Path.{_≡_, refl, sym, ap, _∙_, subst}
+use mathlib.Core.Path.{_≡_, refl, sym, _∙_, subst}
 use mathlib.Core.Bool.{Bool, true, false}
-use mathlib.Core.List.{List, _++_}
+use mathlib.Core.List.{List}
 use native.Mathlib.Omega.{arith}
 use lib.ListN.{length, getD, set, take, replicate, getD-replicate, length-set, length-append, length-take, length-replicate, List·getD-eq-default}
 use lib.Seq.{getD-append-add, getD-set-same, getD-set-other, length-take-le}
@@ -25,7 +25,7 @@ written-agree row l m h (suc n) le a c =
     rw (← g .0) (if-both (λ (x y : List ℕ). x ≡ y) (eqb (getD l (row .page + n) 0) 1) (λ t. rw (e, g .1 (eqb-true _ _ t))) (λ _. e))
 
 -- Cleared latches have no mark, and so agree.
-zeros : (n j : ℕ) → _≡_ {A = ℕ} (getD (replicate n 0) j 0) 0
+pub zeros : (n j : ℕ) → _≡_ {A = ℕ} (getD (replicate n 0) j 0) 0
 zeros n j = go (ltb j n) refl
   where
     go : (t : Bool) → ltb j n ≡ t → _≡_ {A = ℕ} (getD (replicate n 0) j 0) 0

@@ -1,9 +1,13 @@
 pub mod Choice
-pub mod Widths
 pub mod Examples
+pub mod Incident
+pub mod Inside
 pub mod Latch
-pub mod Received
 pub mod Preserved
-pub mod Soundness
+pub mod Received
+pub mod Refusals
 pub mod Same
-pub mod Broken
+pub mod Selections
+pub mod Soundness
+pub mod Stored
+pub mod Widths

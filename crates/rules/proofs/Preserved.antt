@@ -1,25 +1,25 @@
 -- The theorem `preserved`: every event keeps a sound world sound, and its lists as long as they were.
-use Prim.Native.Nat.{ℕ, zero, suc, _+_, _-_, _*_, _/_, _%_, _≤_, _<_}
+use Prim.Native.Nat.{ℕ, _+_, _*_, _≤_, _<_}
 use mathlib.Core.Path.{_≡_, refl, sym, ap, _∙_}
-use mathlib.Core.Bool.{Bool, true, false, not, _&&_, _||_}
+use mathlib.Core.Bool.{Bool, true, false, not, _&&_}
 use mathlib.Core.List.{List}
-use native.Mathlib.Nat.{zero-mod, mod-lt}
 use native.Mathlib.Omega.{arith}
-use lib.ListN.{length, getD, set, length-set}
-use lib.Dec.{eqb, leb, ltb, lit<}
-use borrow.Author.Tests.{leb-true, leb-false, not-true, not-false}
-use Rattle.rules.specs.World.{Row, Kind, Level, Event, Pins, Input, Command, Registers, Cycle, State, World, if_then_else_, bit, number, withPins, withSelection, withState}
+use lib.ListN.{length, getD}
+use lib.Dec.{eqb, leb, lit<}
+use borrow.Author.Tests.{not-false}
+use Rattle.rules.specs.World.{Row, Kind, Event, Pins, Input, Command, State, World, number, withPins, withState}
 use Rattle.rules.specs.Device.{Widths}
 use Rattle.rules.specs.Instruction.{facts, changes, busy}
-use Rattle.rules.specs.Receive.{commandAfter, addressAfter, latchAfter, inputAfter, rise}
-use Rattle.rules.specs.Send.{isSending, shownAddress, fall}
-use Rattle.rules.specs.Judge.{storable, isDone, startOf, judged}
-use Rattle.rules.specs.Cycle.{written, waited}
-use Rattle.rules.specs.Event.{pinsAfter, selected, deselected, powered, decodes, react, settled, step, refusal, next, after}
-use Rattle.rules.specs.Sound.{SoundInput, SoundCycle, Off, Unsettled, Sound, Lent, Preserved}
-use Rattle.rules.proofs.Choice.{if-elim, if-both, if-within, clash, and-left, and-right, and-both, and-rest, or-left, or-right}
-use Rattle.rules.proofs.Widths.{page-below, start-aligned}
-use Rattle.rules.proofs.Received.{input-sound, whole-sound, bit-sound, address-inside, shown-inside, command-turned, latch-long, latch-marks}
+use Rattle.rules.specs.Receive.{rise}
+use Rattle.rules.specs.Send.{isSending, fall}
+use Rattle.rules.specs.Judge.{storable, isDone, judged}
+use Rattle.rules.specs.Cycle.{waited}
+use Rattle.rules.specs.Event.{pinsAfter, deselected, powered, decodes, react, settled, step}
+use Rattle.rules.specs.Sound.{SoundInput, SoundCycle, Unsettled, Sound, Lent, Preserved}
+use Rattle.rules.proofs.Choice.{if-elim, if-within, clash, and-right, and-rest, or-left}
+use Rattle.rules.proofs.Widths.{page-below}
+use Rattle.rules.proofs.Stored.{begun-sound, written-long, left-sound}
+use Rattle.rules.proofs.Received.{input-sound, address-inside, shown-inside, command-turned, latch-long, latch-marks}
 
 -- The world after an event but for the hold rule.
 abbrev pub unheld : Row → Event → World → World
@@ -36,18 +36,18 @@ settled-sound {row} {w} h =
     let x = s .selection in
     record {
       unsettled =
-        record {
-          input = h .input;
-          inside = h .inside;
-          stored = h .stored;
-          cycle = h .cycle;
-          off = λ o. let f = h .off o in record { held = rw o (f .held); bits = f .bits; bytes = f .bytes; z = f .z };
-          low = h .low;
-          saw = h .saw;
-          turned = h .turned;
-          marks = h .marks
-        };
-      holds = λ on low. rw (on, low)
+          record {
+            input = h .input;
+            inside = h .inside;
+            stored = h .stored;
+            cycle = h .cycle;
+            off = λ o. let f = h .off o in record { held = rw o (f .held); bits = f .bits; bytes = f .bytes; z = f .z };
+            low = h .low;
+            saw = h .saw;
+            turned = h .turned;
+            marks = h .marks;
+          };
+      holds = λ on low. rw (on, low);
     }
 
 -- Pins alone change.
@@ -63,7 +63,7 @@ pins-sound p h low saw =
       low = low;
       saw = saw;
       turned = h .turned;
-      marks = h .marks
+      marks = h .marks;
     }
 
 -- C rises.
@@ -84,11 +84,11 @@ module _ {row : Row} (v : Widths row) (w : World) (h : Unsettled row w) (l : Len
         low = h .low;
         saw = h .saw;
         turned = λ run.
-          if-within (λ (i : Input) (c : Command). (i .bytes ≡ 0 → ⊥) → facts (c .instruction) .taken ≡ false → c .away ≡ true) d t
-          (λ _ _ f. command-turned row b s (h .turned run) run f)
-          (λ _. h .turned run)
-          (h .turned run);
-        marks = if-elim (λ (m : List ℕ). (i : ℕ) → getD m (row .page + i) 0 ≤ 1) (d && t) (λ _. latch-marks v b w (l .latch) (h .marks)) (λ _. h .marks)
+            if-within (λ (i : Input) (c : Command). (i .bytes ≡ 0 → ⊥) → facts (c .instruction) .taken ≡ false → c .away ≡ true) d t
+            (λ _ _ f. command-turned row b s (h .turned run) run f)
+            (λ _. h .turned run)
+            (h .turned run);
+        marks = if-elim (λ (m : List ℕ). (i : ℕ) → getD m (row .page + i) 0 ≤ 1) (d && t) (λ _. latch-marks v b w (l .latch) (h .marks)) (λ _. h .marks);
       }
 
   rise-lent : Lent row (unheld row (Event.Clock true) w)
@@ -99,9 +99,9 @@ module _ {row : Row} (v : Widths row) (w : World) (h : Unsettled row w) (l : Len
         cells = l .cells;
         identification = l .identification;
         latch =
-          if-elim (λ (m : List ℕ). length m ≡ row .page + row .page) (decodes s && not (s .pins .c) && eqb (s .input .bits) 7)
-          (λ _. latch-long v (s .input .value * 2 + number (s .pins .d)) w (l .latch) ∙ l .latch)
-          (λ _. l .latch)
+            if-elim (λ (m : List ℕ). length m ≡ row .page + row .page) (decodes s && not (s .pins .c) && eqb (s .input .bits) 7)
+            (λ _. latch-long v (s .input .value * 2 + number (s .pins .d)) w (l .latch) ∙ l .latch)
+            (λ _. l .latch);
       }
 
   fall-sound : Unsettled row (unheld row (Event.Clock false) w)
@@ -117,10 +117,10 @@ module _ {row : Row} (v : Widths row) (w : World) (h : Unsettled row w) (l : Len
         low = h .low;
         saw = h .saw;
         turned = h .turned;
-        marks = h .marks
+        marks = h .marks;
       }
 
--- S falls or rises, W, power: what a selection begins and ends with.
+-- What a selection begins and ends with.
 none-received : (last : ℕ) → SoundInput (record { bits = 0; value = 0; bytes = 0; last = last })
 none-received last = record { few = omega arith; small = lit< tt; counted = omega arith }
 
@@ -139,44 +139,11 @@ deselected-sound {row} {w} s h same stored cycle =
       low = λ on. clash (sym on);
       saw = λ on. clash (sym on);
       turned = λ _ none. absurd (none refl);
-      marks = h .marks
+      marks = h .marks;
     }
 
--- The stored bits of a byte are bits that the device has.
-again : (srwd b : Bool) (q : ℕ) → q < 4 → (srwd ≡ false → b ≡ false)
-    → _≡_ {A = ℕ} (number (srwd && eqb ((number b * 128 + q * 4) / 128 % 2) 1) * 128 + (number b * 128 + q * 4) / 4 % 4 * 4) (number b * 128 + q * 4)
-again true true q h f = let e : (128 + q * 4) / 128 % 2 ≡ 1 = omega arith in rw e (omega arith)
-again true false q h f = let e : (0 + q * 4) / 128 % 2 ≡ 0 = omega arith in rw e (omega arith)
-again false true q h f = clash (f refl)
-again false false q h f = omega arith
-
-pub storable-only : (row : Row) (v : ℕ) → storable row (storable row v) ≡ storable row v
-storable-only row v = again (row .srwd) (row .srwd && bit v 7) (v / 4 % 4) (mod-lt (v / 4) (lit< tt)) (λ e. rw e)
-
--- What a done write starts is a sound cycle.
+-- S falls or rises.
 module _ {row : Row} (v : Widths row) (w : World) (h : Unsettled row w) where
-  start-sound : (k : Kind) → (startOf row (w .state) k % row .page ≡ 0) × (startOf row (w .state) k < row .cells) × (changes k .identification ≡ true → startOf row (w .state) k ≡ 0)
-  start-sound Kind.None = (h .cycle .aligned, h .cycle .inside, λ e. clash (sym e))
-  start-sound Kind.Array = (start-aligned row (w .state .place .address), omega (arith, h .inside), λ e. clash (sym e))
-  start-sound Kind.Identification = (zero-mod (row .page), omega (arith, page-below v), λ _. refl)
-  start-sound Kind.Status = (h .cycle .aligned, h .cycle .inside, λ e. clash (sym e))
-  start-sound Kind.Lock = (h .cycle .aligned, h .cycle .inside, λ e. clash (sym e))
-
-  begun-sound : (begins : Bool) (k : Kind) (b : ℕ) → (begins ≡ true → changes k .runs ≡ true)
-      → SoundCycle row (if begins then k else w .state .cycle .kind) (if begins && changes k .status then storable row b else w .state .cycle .next)
-      (if begins then startOf row (w .state) k else w .state .place .start) (if begins then row .time else w .state .place .left)
-  begun-sound false k b f = h .cycle
-  begun-sound true k b f =
-      let t = start-sound k in
-      record {
-        only = if-elim (λ (n : ℕ). storable row n ≡ n) (changes k .status) (λ _. storable-only row b) (λ _. h .cycle .only);
-        runs = λ _. (v .lasts, omega arith);
-        rests = λ e. clash (sym (f refl) ∙ e);
-        aligned = t .0;
-        inside = t .1;
-        first = t .2
-      }
-
   select-sound : (b : Bool) → Unsettled row (unheld row (Event.Select b) w)
   unfolding react judged
   select-sound true =
@@ -185,25 +152,25 @@ module _ {row : Row} (v : Widths row) (w : World) (h : Unsettled row w) where
       let begins = isDone row s && changes k .runs in
       if-elim (λ (x : State). Unsettled row (withState (withPins (pinsAfter (Event.Select true) (s .pins)) x) w)) (s .selection .selected && not (s .pins .s))
       (λ _. deselected-sound {w = w} (withPins (pinsAfter (Event.Select true) (s .pins)) (judged row s)) h refl (h .stored)
-        (begun-sound begins k (s .input .last) (λ e. and-right (isDone row s) (changes k .runs) e)))
+      (begun-sound v w h begins k (s .input .last) (λ e. and-right (isDone row s) (changes k .runs) e)))
       (λ e. pins-sound (pinsAfter (Event.Select true) (s .pins)) h
-        (λ on. sym (not-false (s .pins .s) (and-rest (s .selection .selected) (not (s .pins .s)) e on)) ∙ h .low on)
-        (h .saw))
+      (λ on. sym (not-false (s .pins .s) (and-rest (s .selection .selected) (not (s .pins .s)) e on)) ∙ h .low on)
+      (h .saw))
   select-sound false =
       let s = w .state in
       if-elim (λ (x : State). Unsettled row (withState (withPins (pinsAfter (Event.Select false) (s .pins)) x) w)) (s .pins .s)
       (λ _.
-        record {
-          input = none-received 0;
-          inside = omega (arith, page-below v);
-          stored = h .stored;
-          cycle = h .cycle;
-          off = λ o. clash o;
-          low = λ _. refl;
-          saw = λ _ e. ap not e;
-          turned = λ _ none. absurd (none refl);
-          marks = h .marks
-        })
+      record {
+        input = none-received 0;
+        inside = omega (arith, page-below v);
+        stored = h .stored;
+        cycle = h .cycle;
+        off = λ o. clash o;
+        low = λ _. refl;
+        saw = λ _ e. ap not e;
+        turned = λ _ none. absurd (none refl);
+        marks = h .marks;
+      })
       (λ _. pins-sound (pinsAfter (Event.Select false) (s .pins)) h (λ _. refl) (h .saw))
 
 -- W goes low.
@@ -219,45 +186,13 @@ protect-sound {row} {w} h =
       low = h .low;
       saw = λ on _. or-left (w .state .selection .selected) (w .state .selection .seen) on;
       turned = h .turned;
-      marks = h .marks
+      marks = h .marks;
     }
 
--- A cycle ends, or goes on with less time left.
-written-long : (n page : ℕ) (l : List ℕ) (a : ℕ) (m : List ℕ) → length (written n page l a m) ≡ length m
-unfolding written
-written-long zero page l a m = refl
-written-long (suc n) page l a m =
-    if-elim (λ (r : List ℕ). length r ≡ length m) (eqb (getD l (page + n) 0) 1)
-    (λ _. length-set (written n page l a m) (a + n) (getD l n 0) ∙ written-long n page l a m)
-    (λ _. written-long n page l a m)
-
+-- Time passes.
 module _ (row : Row) (w : World) (n : ℕ) where
   ends : Bool
   ends = busy (w .state) && leb (w .state .place .left) n
-
-  left-sound : (e b : Bool) (k : Kind) → (b && leb (w .state .place .left) n) ≡ e → changes k .runs ≡ b
-      → SoundCycle row k (w .state .cycle .next) (w .state .place .start) (w .state .place .left)
-      → SoundCycle row (if e then Kind.None else k) (w .state .cycle .next) (w .state .place .start) (w .state .place .left - n)
-  left-sound true b k e f h =
-      let short = leb-true (w .state .place .left) n (and-right b (leb (w .state .place .left) n) e) in
-      record {
-        only = h .only;
-        runs = λ r. clash (sym r);
-        rests = λ _. omega arith;
-        aligned = h .aligned;
-        inside = h .inside;
-        first = λ r. clash (sym r)
-      }
-  left-sound false b k e f h =
-      let long : b ≡ true → n < w .state .place .left = λ r. leb-false (w .state .place .left) n (and-rest b (leb (w .state .place .left) n) e r) in
-      record {
-        only = h .only;
-        runs = λ r. let t = h .runs r in let m = long (sym f ∙ r) in (omega arith, omega arith);
-        rests = λ r. let t = h .rests r in omega arith;
-        aligned = h .aligned;
-        inside = h .inside;
-        first = h .first
-      }
 
   wait-sound : Unsettled row w → Unsettled row (unheld row (Event.Wait n) w)
   unfolding react waited ends
@@ -267,13 +202,13 @@ module _ (row : Row) (w : World) (n : ℕ) where
         input = h .input;
         inside = h .inside;
         stored = if-elim (λ (v : ℕ). storable row v ≡ v) (ends && changes (s .cycle .kind) .status) (λ _. h .cycle .only) (λ _. h .stored);
-        cycle = left-sound ends (busy s) (s .cycle .kind) refl refl (h .cycle);
+        cycle = left-sound w n ends (busy s) (s .cycle .kind) refl refl (h .cycle);
         off = h .off;
         low = h .low;
         saw = h .saw;
         turned = if-elim (λ (k : Kind). changes k .runs ≡ true → (s .input .bytes ≡ 0 → ⊥) → facts (s .command .instruction) .taken ≡ false → s .command .away ≡ true) ends
-          (λ _ e. clash (sym e)) (λ _ e. h .turned e);
-        marks = h .marks
+            (λ _ e. clash (sym e)) (λ _ e. h .turned e);
+        marks = h .marks;
       }
 
   wait-lent : Lent row w → Lent row (unheld row (Event.Wait n) w)
@@ -283,7 +218,7 @@ module _ (row : Row) (w : World) (n : ℕ) where
       record {
         cells = if-elim (λ (m : List ℕ). length m ≡ row .cells) (ends && changes (s .cycle .kind) .cells) (λ _. written-long (row .page) (row .page) (w .latch) (s .place .start) (w .cells) ∙ l .cells) (λ _. l .cells);
         identification = if-elim (λ (m : List ℕ). length m ≡ row .page) (ends && changes (s .cycle .kind) .identification) (λ _. written-long (row .page) (row .page) (w .latch) 0 (w .identification) ∙ l .identification) (λ _. l .identification);
-        latch = l .latch
+        latch = l .latch;
       }
 
 unheld-sound : {row : Row} → Widths row → (e : Event) (w : World) → Unsettled row w → Lent row w → Unsettled row (unheld row e w)

@@ -1,22 +1,22 @@
 -- What a decoded edge of C keeps sound: the byte being received, the address, the command and the latch.
-use Prim.Native.Nat.{ℕ, zero, suc, _+_, _-_, _*_, _%_, _^_, _≤_, _<_, min}
-use mathlib.Core.Path.{_≡_, refl, sym, ap, _∙_, subst}
-use mathlib.Core.Bool.{Bool, true, false, not, _&&_, _||_}
-use mathlib.Core.List.{List, _++_}
+use Prim.Native.Nat.{ℕ, _+_, _*_, _%_, _≤_, _<_, min}
+use mathlib.Core.Path.{_≡_, refl, sym, ap, _∙_}
+use mathlib.Core.Bool.{Bool, true, false, not, _&&_}
+use mathlib.Core.List.{List}
 use native.Mathlib.Nat.{mod-lt, min-le-right}
 use native.Mathlib.Numerals.{add-one}
 use native.Mathlib.Omega.{arith}
 use lib.ListN.{length, getD, length-append, length-take, length-replicate, length-set}
-use lib.Dec.{eqb, leb, ltb, lit<}
+use lib.Dec.{eqb, lit<}
 use borrow.Author.Tests.{eqb-false}
-use Rattle.rules.specs.World.{Row, Instruction, Input, Command, State, World, if_then_else_, bit, number}
+use Rattle.rules.specs.World.{Row, Instruction, Input, State, World, if_then_else_, bit, number}
 use Rattle.rules.specs.declared.Instruction.the-variants.{Wren, Wrdi, Rdsr, Wrsr, Read, Write, Rdid, Rdls, Wrid, Lid, Unknown}
 use Rattle.rules.specs.Device.{Widths, single}
-use Rattle.rules.specs.Instruction.{Source, silent, fromStatus, fromCells, fromIdentification, fromLock, facts, decode, busy, latches, turnedAway, commandBytes, startAddress, longer, lockBit}
-use Rattle.rules.specs.Receive.{isCode, isAddress, isLast, isLatched, commandAfter, rolled, addressAfter, cleared, marked, latchAfter, inputAfter}
+use Rattle.rules.specs.Instruction.{Source, silent, fromStatus, fromCells, fromIdentification, fromLock, facts, decode, busy, latches, turnedAway, commandBytes, longer, lockBit}
+use Rattle.rules.specs.Receive.{isCode, isAddress, isLast, isLatched, commandAfter, addressAfter, cleared, marked, latchAfter, inputAfter}
 use Rattle.rules.specs.Send.{going, sourceOf, shownAddress}
 use Rattle.rules.specs.Sound.{SoundInput}
-use Rattle.rules.proofs.Choice.{if-elim, if-both, clash, and-both}
+use Rattle.rules.proofs.Choice.{if-elim, clash, and-both}
 use Rattle.rules.proofs.Latch.{cleared-mark, mark-read}
 use Rattle.rules.proofs.Widths.{page-positive, page-below, longer-inside, rolled-inside}
 
@@ -34,7 +34,7 @@ bit-sound i d h e =
     record {
       few = omega (arith, h .few, eqb-false (i .bits) 7 e);
       small = rw (add-one (i .bits)) (omega (arith, h .small, number-small d));
-      counted = h .counted
+      counted = h .counted;
     }
 
 pub input-sound : (i : Input) (d : Bool) → SoundInput i → SoundInput (inputAfter (i .value * 2 + number d) i)
@@ -49,8 +49,8 @@ module _ {row : Row} (v : Widths row) where
       let i = decode row b in
       if-elim P (isCode s) (λ _. omega (arith, number-small (single row && facts i .addressed && not (facts i .inPage) && bit b 3), page-below v, page-positive v))
       (λ _. if-elim P (isLast row s) (λ _. omega (arith, mod-lt (longer row (s .place .address) b) {m = row .page} (page-positive v), page-below v))
-        (λ _. if-elim P (isAddress row s) (λ _. longer-inside v (s .place .address) b)
-          (λ _. if-elim P (isLatched row s) (λ _. rolled-inside v (s .place .address) h) (λ _. h))))
+      (λ _. if-elim P (isAddress row s) (λ _. longer-inside v (s .place .address) b)
+      (λ _. if-elim P (isLatched row s) (λ _. rolled-inside v (s .place .address) h) (λ _. h))))
 
   onward-inside : (x : Source) (a : ℕ) → a < row .cells → going row x a .after < row .cells
   onward-inside silent a h = h
@@ -87,8 +87,10 @@ command-turned row b s h run = go (isCode s) refl
   where
     i : Instruction
     i = s .command .instruction
+
     lock : Bool
     lock = isLast row s && lockBit row (longer row (s .place .address) b)
+
     go : (t : Bool) → isCode s ≡ t → facts (if t then decode row b else (if lock then facts i .lockForm else i)) .taken ≡ false
         → (if t then turnedAway s (decode row b) else s .command .away) ≡ true
     go true e f = and-both (busy s) (not (facts (decode row b) .taken)) run (ap not f)

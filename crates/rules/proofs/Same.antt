@@ -1,5 +1,5 @@
 -- Two worlds that no one can tell apart: equal but for the latch where nothing will use it and, while deselected, what the last selection left.
-use Prim.Native.Nat.{ℕ, _+_, _*_, _%_, _≤_}
+use Prim.Native.Nat.{ℕ, _+_, _*_}
 use mathlib.Core.Path.{_≡_, refl, sym, ap, _∙_, subst₂}
 use mathlib.Core.Bool.{Bool, true, false, not, _&&_, _||_}
 use mathlib.Core.List.{List}
@@ -11,12 +11,12 @@ use borrow.Author.Tests.{not-true}
 use Rattle.rules.specs.World.{Row, Instruction, Kind, Level, Event, Command, State, World, if_then_else_, number, withPins, withSelection, withState, withLatch}
 use Rattle.rules.specs.Device.{Widths}
 use Rattle.rules.specs.Instruction.{facts, changes, busy, holdsLatch, latches, decode, turnedAway, longer, lockBit}
-use Rattle.rules.specs.Receive.{isCode, isLast, isLatched, commandAfter, cleared, marked, latchAfter, rise}
+use Rattle.rules.specs.Receive.{isCode, isLast, isLatched, commandAfter, latchAfter, rise}
 use Rattle.rules.specs.Send.{fall}
-use Rattle.rules.specs.Judge.{allows, isDone, judged}
+use Rattle.rules.specs.Judge.{allows, isWhole, isDone, judged}
 use Rattle.rules.specs.Cycle.{written, waited}
-use Rattle.rules.specs.Event.{pinsAfter, selected, deselected, decodes, answer, refusal, react, settled, step, next, after}
-use Rattle.rules.specs.Sound.{Unsettled, Lent}
+use Rattle.rules.specs.Event.{pinsAfter, selected, deselected, decodes, answer, refusal, react, settled, step, next}
+use Rattle.rules.specs.Sound.{Lent}
 use Rattle.rules.specs.Selections.{contents, visible}
 use Rattle.rules.proofs.Choice.{if-elim, if-both, clash, and-left, and-right, and-both, or-left, or-right, or-first, or-map}
 use Rattle.rules.proofs.Widths.{page-positive}
@@ -48,7 +48,7 @@ uses s = holdsLatch (s .cycle .kind) || commandUses (s .command)
 pub data Same (row : Row) : World → World → Type 0 where
   same : (w : World) (l : List ℕ) → length l ≡ length (w .latch) → (uses (w .state) ≡ true → Agree row (w .latch) l) → Same row w (withLatch l w)
   off : (w : World) (l : List ℕ) (x y : Left) → length l ≡ length (w .latch) → (holdsLatch (w .state .cycle .kind) ≡ true → Agree row (w .latch) l)
-    → Same row (withState (idle x (w .state)) w) (withLatch l (withState (idle y (w .state)) w))
+      → Same row (withState (idle x (w .state)) w) (withLatch l (withState (idle y (w .state)) w))
 
 -- C rises.
 module _ {row : Row} (v : Widths row) (w : World) (long : length (w .latch) ≡ row .page + row .page) (l : List ℕ) (n : length l ≡ length (w .latch)) (b : ℕ) where
@@ -81,13 +81,13 @@ module _ {row : Row} (v : Widths row) (w : World) (long : length (w .latch) ≡ 
       let a = s .place .address in
       rw e
       (λ u.
-        let before : uses s ≡ true =
-            or-map (holdsLatch (s .cycle .kind)) _ (commandUses (s .command))
-            (if-elim (λ (j : Instruction). (latches j && not (s .command .away)) ≡ true → commandUses (s .command) ≡ true) (isLast row s && lockBit row (longer row a b))
-              (λ _ t. and-both (latches i) (not (s .command .away)) (lock-form i .1 (and-left (latches (facts i .lockForm)) (not (s .command .away)) t)) (and-right (latches (facts i .lockForm)) (not (s .command .away)) t))
-              (λ _ t. t))
-            u in
-        if-both (Agree row) (isLatched row s) (λ _. marked-agree row (w .latch) l a b (omega arith) n (mod-lt a (page-positive v)) (h before)) (λ _. h before))
+      let before : uses s ≡ true =
+      or-map (holdsLatch (s .cycle .kind)) _ (commandUses (s .command))
+      (if-elim (λ (j : Instruction). (latches j && not (s .command .away)) ≡ true → commandUses (s .command) ≡ true) (isLast row s && lockBit row (longer row a b))
+      (λ _ t. and-both (latches i) (not (s .command .away)) (lock-form i .1 (and-left (latches (facts i .lockForm)) (not (s .command .away)) t)) (and-right (latches (facts i .lockForm)) (not (s .command .away)) t))
+      (λ _ t. t))
+      u in
+      if-both (Agree row) (isLatched row s) (λ _. marked-agree row (w .latch) l a b (omega arith) n (mod-lt a (page-positive v)) (h before)) (λ _. h before))
 
   latch-agree : (uses (w .state) ≡ true → Agree row (w .latch) l)
       → (holdsLatch (w .state .cycle .kind) || commandUses (commandAfter row b (w .state))) ≡ true
@@ -112,8 +112,10 @@ rise-same {row} v k (same w l n h) =
   where
     s′ : State
     s′ = w .state
+
     b′ : ℕ
     b′ = s′ .input .value * 2 + number (s′ .pins .d)
+
     go : (t : Bool) → (holdsLatch (s′ .cycle .kind) || commandUses (if t then commandAfter row b′ s′ else s′ .command)) ≡ true
         → Agree row (if t then latchAfter row b′ w else w .latch) (if t then latchAfter row b′ (withLatch l w) else l)
     go true u = latch-agree v w (k .latch) l n b′ h u
@@ -140,10 +142,10 @@ module _ (row : Row) (s : State) where
   unfolding judged isDone
   risen-uses true =
       let k = facts (s .command .instruction) .starts in
-      let whole = not (s .selection .held) && not (s .command .away) && eqb (s .input .bits) 0 in
+      let whole = not (s .selection .held) && not (s .command .away) && isWhole s in
       begun-uses (whole && allows row s k && changes k .runs)
       (λ e. not-true (s .command .away) (and-right (not (s .selection .held)) (not (s .command .away))
-        (and-left (not (s .selection .held) && not (s .command .away)) (eqb (s .input .bits) 0) (and-left whole (allows row s k) (and-left (whole && allows row s k) (changes k .runs) e)))))
+      (and-left (not (s .selection .held) && not (s .command .away)) (isWhole s) (and-left whole (allows row s k) (and-left (whole && allows row s k) (changes k .runs) e)))))
   risen-uses false = λ u. u
 
 select-same : {row : Row} {w t : World} (b : Bool) → Same row w t → Same row (unheld row (Event.Select b) w) (unheld row (Event.Select b) t)
@@ -181,9 +183,10 @@ module _ (row : Row) (w : World) (l : List ℕ) (n : ℕ) (h : holdsLatch (w .st
       × (unheld row (Event.Wait n) w .identification ≡ unheld row (Event.Wait n) (withLatch l w) .identification)
   unfolding react waited ended
   waited-bytes =
-      let k = changes (w .state .cycle .kind) in
-      ( written-same (k .cells) (w .state .place .start) (w .cells) (λ e. or-left (k .cells) (k .identification) e),
-        written-same (k .identification) 0 (w .identification) (λ e. or-right (k .cells) (k .identification) e))
+      let k = changes (w .state .cycle .kind) in (
+        written-same (k .cells) (w .state .place .start) (w .cells) (λ e. or-left (k .cells) (k .identification) e),
+        written-same (k .identification) 0 (w .identification) (λ e. or-right (k .cells) (k .identification) e),
+      )
 
 wait-same : {row : Row} {w t : World} (n : ℕ) → Same row w t → Same row (unheld row (Event.Wait n) w) (unheld row (Event.Wait n) t)
 unfolding react waited
@@ -193,7 +196,7 @@ wait-same {row} n (same w l m h) =
     let e = waited-bytes row w l n (λ e. h (or-left (holdsLatch (s .cycle .kind)) (commandUses (s .command)) e)) in
     subst₂ (λ (c i : List ℕ). Same row x (record { state = x .state; cells = c; identification = i; latch = l })) (e .0) (e .1)
     (same x l m (λ u. h (if-elim (λ (k : Kind). (holdsLatch k || commandUses (s .command)) ≡ true → uses s ≡ true) (busy s && leb (s .place .left) n)
-      (λ _ e. or-right (holdsLatch (s .cycle .kind)) (commandUses (s .command)) e) (λ _ e. e) u)))
+    (λ _ e. or-right (holdsLatch (s .cycle .kind)) (commandUses (s .command)) e) (λ _ e. e) u)))
 wait-same {row} n (off w l x y m h) =
     let s = w .state in
     let z = unheld row (Event.Wait n) w in
@@ -227,7 +230,7 @@ unfolding step
 step-same e v k g = settled-same (unheld-same e v k g)
 
 -- Nobody can tell them apart by an event, and they stay so.
-contents-same : {row : Row} {w t : World} → Same row w t → contents w ≡ contents t
+pub contents-same : {row : Row} {w t : World} → Same row w t → contents w ≡ contents t
 contents-same (same w l n h) = refl
 contents-same (off w l x y n h) = refl
 

@@ -1,18 +1,18 @@
 -- The theorem `reads`: the test for soundness and the record of facts say the same.
-use Prim.Native.Nat.{ℕ, zero, suc, _+_, _%_, _^_, _≤_, _<_}
-use mathlib.Core.Path.{_≡_, refl, sym, ap, _∙_}
+use Prim.Native.Nat.{ℕ, zero, suc, _%_, _^_, _≤_}
+use mathlib.Core.Path.{_≡_, refl, sym, ap}
 use mathlib.Core.Bool.{Bool, true, false, not, _&&_, _||_, Bool·beq}
 use mathlib.Core.List.{List, [], _∷_}
 use native.Mathlib.Omega.{arith}
 use lib.ListN.{getD, drop}
 use lib.Seq.{getD-drop}
-use lib.Dec.{eqb, leb, ltb}
+use lib.Dec.{eqb, leb}
 use borrow.Author.Tests.{eqb-true, eqb-false, leb-true, ltb-true, eq-eqb, ne-eqb, le-leb, lt-ltb, not-true}
-use Rattle.rules.specs.World.{Row, Level, State, World, if_then_else_}
+use Rattle.rules.specs.World.{Row, Level, World, if_then_else_}
 use Rattle.rules.specs.Instruction.{facts, changes, busy}
 use Rattle.rules.specs.Judge.{storable}
 use Rattle.rules.specs.Sound.{_implies_, all, isZ, areMarks, clauses, isSound, Sound, Reads}
-use Rattle.rules.proofs.Choice.{clash, and-left, and-right, and-both, or-left, or-right, or-rest}
+use Rattle.rules.proofs.Choice.{clash, and-left, and-right, and-both, or-rest}
 
 -- A list of tests that all hold is a fact for each.
 abbrev Each : List Bool → Type 0
@@ -98,43 +98,43 @@ module _ (row : Row) (w : World) where
       let h₁₅ = h₁₀ .1 .1 .1 .1 .1 in
       record {
         unsettled =
-          record {
-            input =
-              record {
-                few = leb-true (s .input .bits) 7 (h .0);
-                small = ltb-true (s .input .value) (2 ^ s .input .bits) (h .1 .0);
-                counted = leb-true (s .input .bytes) 6 (h .1 .1 .0)
-              };
-            inside = ltb-true (s .place .address) (row .cells) (h .1 .1 .1 .0);
-            stored = eqb-true (storable row (s .registers .status)) (s .registers .status) (h .1 .1 .1 .1 .0);
-            cycle =
-              record {
-                only = eqb-true (storable row (s .cycle .next)) (s .cycle .next) (h₅ .0);
-                runs = time-runs (s .place .left) (row .time) (busy s) (h₅ .1 .0);
-                rests = time-rests (s .place .left) (row .time) (busy s) (h₅ .1 .0);
-                aligned = eqb-true (s .place .start % row .page) 0 (h₅ .1 .1 .0);
-                inside = ltb-true (s .place .start) (row .cells) (h₅ .1 .1 .1 .0);
-                first = λ k. eqb-true (s .place .start) 0 (implied (changes (s .cycle .kind) .identification) (eqb (s .place .start) 0) (h₅ .1 .1 .1 .1 .0) k)
-              };
-            off = λ o.
-              record {
-                held = not-true (s .selection .held) (implied (not on) (not (s .selection .held)) (h₁₀ .0) (ap not o));
-                bits = eqb-true (s .input .bits) 0 (implied (not on) (eqb (s .input .bits) 0) (h₁₀ .1 .0) (ap not o));
-                bytes = eqb-true (s .input .bytes) 0 (implied (not on) (eqb (s .input .bytes) 0) (h₁₀ .1 .1 .0) (ap not o));
-                z = z-true (s .output .q) (implied (not on) (isZ (s .output .q)) (h₁₀ .1 .1 .1 .0) (ap not o))
-              };
-            low = λ o. not-true (s .pins .s) (implied on (not (s .pins .s)) (h₁₀ .1 .1 .1 .1 .0) o);
-            saw = λ o e. or-rest (s .pins .w) (s .selection .seen) (implied on (s .pins .w || s .selection .seen) (h₁₅ .0) o) e;
-            turned = λ b none t.
-              or-rest (eqb (s .input .bytes) 0 || facts (s .command .instruction) .taken) (s .command .away)
-              (implied (busy s) (eqb (s .input .bytes) 0 || facts (s .command .instruction) .taken || s .command .away) (h₁₅ .1 .0) b)
-              (rw (ne-eqb (s .input .bytes) 0 none, t));
-            marks = λ i. rw (getD-drop (row .page) (w .latch) i 0) at (marks-true (drop (row .page) (w .latch)) (h₁₅ .1 .1 .1 .0) i)
-          };
+            record {
+              input =
+                  record {
+                    few = leb-true (s .input .bits) 7 (h .0);
+                    small = ltb-true (s .input .value) (2 ^ s .input .bits) (h .1 .0);
+                    counted = leb-true (s .input .bytes) 6 (h .1 .1 .0);
+                  };
+              inside = ltb-true (s .place .address) (row .cells) (h .1 .1 .1 .0);
+              stored = eqb-true (storable row (s .registers .status)) (s .registers .status) (h .1 .1 .1 .1 .0);
+              cycle =
+                  record {
+                    only = eqb-true (storable row (s .cycle .next)) (s .cycle .next) (h₅ .0);
+                    runs = time-runs (s .place .left) (row .time) (busy s) (h₅ .1 .0);
+                    rests = time-rests (s .place .left) (row .time) (busy s) (h₅ .1 .0);
+                    aligned = eqb-true (s .place .start % row .page) 0 (h₅ .1 .1 .0);
+                    inside = ltb-true (s .place .start) (row .cells) (h₅ .1 .1 .1 .0);
+                    first = λ k. eqb-true (s .place .start) 0 (implied (changes (s .cycle .kind) .identification) (eqb (s .place .start) 0) (h₅ .1 .1 .1 .1 .0) k);
+                  };
+              off = λ o.
+                  record {
+                    held = not-true (s .selection .held) (implied (not on) (not (s .selection .held)) (h₁₀ .0) (ap not o));
+                    bits = eqb-true (s .input .bits) 0 (implied (not on) (eqb (s .input .bits) 0) (h₁₀ .1 .0) (ap not o));
+                    bytes = eqb-true (s .input .bytes) 0 (implied (not on) (eqb (s .input .bytes) 0) (h₁₀ .1 .1 .0) (ap not o));
+                    z = z-true (s .output .q) (implied (not on) (isZ (s .output .q)) (h₁₀ .1 .1 .1 .0) (ap not o));
+                  };
+              low = λ o. not-true (s .pins .s) (implied on (not (s .pins .s)) (h₁₀ .1 .1 .1 .1 .0) o);
+              saw = λ o e. or-rest (s .pins .w) (s .selection .seen) (implied on (s .pins .w || s .selection .seen) (h₁₅ .0) o) e;
+              turned = λ b none t.
+                  or-rest (eqb (s .input .bytes) 0 || facts (s .command .instruction) .taken) (s .command .away)
+                  (implied (busy s) (eqb (s .input .bytes) 0 || facts (s .command .instruction) .taken || s .command .away) (h₁₅ .1 .0) b)
+                  (rw (ne-eqb (s .input .bytes) 0 none, t));
+              marks = λ i. rw (getD-drop (row .page) (w .latch) i 0) at (marks-true (drop (row .page) (w .latch)) (h₁₅ .1 .1 .1 .0) i);
+            };
         holds = λ o e.
-          beq-true (s .selection .held) (not (s .pins .hold))
-          (or-rest (s .pins .c) (Bool·beq (s .selection .held) (not (s .pins .hold)))
-            (implied on (s .pins .c || Bool·beq (s .selection .held) (not (s .pins .hold))) (h₁₅ .1 .1 .0) o) e)
+            beq-true (s .selection .held) (not (s .pins .hold))
+            (or-rest (s .pins .c) (Bool·beq (s .selection .held) (not (s .pins .hold)))
+            (implied on (s .pins .c || Bool·beq (s .selection .held) (not (s .pins .hold))) (h₁₅ .1 .1 .0) o) e);
       }
 
   test-of : Sound row w → isSound row w ≡ true
@@ -144,27 +144,64 @@ module _ (row : Row) (w : World) where
       let on = s .selection .selected in
       let h = k .unsettled in
       let off : (not on ≡ true → on ≡ false) = not-true on in
-      all-of (clauses row w)
-      (le-leb (s .input .bits) 7 (h .input .few),
-        (lt-ltb (s .input .value) (2 ^ s .input .bits) (h .input .small),
-        (le-leb (s .input .bytes) 6 (h .input .counted),
-        (lt-ltb (s .place .address) (row .cells) (h .inside),
-        (eq-eqb (storable row (s .registers .status)) (s .registers .status) (h .stored),
-        (eq-eqb (storable row (s .cycle .next)) (s .cycle .next) (h .cycle .only),
-        (time-of (s .place .left) (row .time) (busy s) (h .cycle .runs) (h .cycle .rests),
-        (eq-eqb (s .place .start % row .page) 0 (h .cycle .aligned),
-        (lt-ltb (s .place .start) (row .cells) (h .cycle .inside),
-        (implying (changes (s .cycle .kind) .identification) (eqb (s .place .start) 0) (λ e. eq-eqb (s .place .start) 0 (h .cycle .first e)),
-        (implying (not on) (not (s .selection .held)) (λ e. ap not (h .off (off e) .held)),
-        (implying (not on) (eqb (s .input .bits) 0) (λ e. eq-eqb (s .input .bits) 0 (h .off (off e) .bits)),
-        (implying (not on) (eqb (s .input .bytes) 0) (λ e. eq-eqb (s .input .bytes) 0 (h .off (off e) .bytes)),
-        (implying (not on) (isZ (s .output .q)) (λ e. ap isZ (h .off (off e) .z)),
-        (implying on (not (s .pins .s)) (λ e. ap not (h .low e)),
-        (implying on (s .pins .w || s .selection .seen) (λ e. or-of (s .pins .w) (s .selection .seen) (h .saw e)),
-        (implying (busy s) (eqb (s .input .bytes) 0 || facts (s .command .instruction) .taken || s .command .away) (λ e. turned-of (s .input .bytes) (facts (s .command .instruction) .taken) (s .command .away) (h .turned e)),
-        (implying on (s .pins .c || Bool·beq (s .selection .held) (not (s .pins .hold))) (λ e. or-of (s .pins .c) (Bool·beq (s .selection .held) (not (s .pins .hold))) (λ c. rw (k .holds e c) (beq-same (not (s .pins .hold))))),
-        (marks-of (drop (row .page) (w .latch)) (λ i. rw (getD-drop (row .page) (w .latch) i 0) (h .marks i)),
-        tt)))))))))))))))))))
+      all-of (clauses row w) (
+        le-leb (s .input .bits) 7 (h .input .few),
+        (
+          lt-ltb (s .input .value) (2 ^ s .input .bits) (h .input .small),
+          (
+            le-leb (s .input .bytes) 6 (h .input .counted),
+            (
+              lt-ltb (s .place .address) (row .cells) (h .inside),
+              (
+                eq-eqb (storable row (s .registers .status)) (s .registers .status) (h .stored),
+                (
+                  eq-eqb (storable row (s .cycle .next)) (s .cycle .next) (h .cycle .only),
+                  (
+                    time-of (s .place .left) (row .time) (busy s) (h .cycle .runs) (h .cycle .rests),
+                    (
+                      eq-eqb (s .place .start % row .page) 0 (h .cycle .aligned),
+                      (
+                        lt-ltb (s .place .start) (row .cells) (h .cycle .inside),
+                        (
+                          implying (changes (s .cycle .kind) .identification) (eqb (s .place .start) 0) (λ e. eq-eqb (s .place .start) 0 (h .cycle .first e)),
+                          (
+                            implying (not on) (not (s .selection .held)) (λ e. ap not (h .off (off e) .held)),
+                            (
+                              implying (not on) (eqb (s .input .bits) 0) (λ e. eq-eqb (s .input .bits) 0 (h .off (off e) .bits)),
+                              (
+                                implying (not on) (eqb (s .input .bytes) 0) (λ e. eq-eqb (s .input .bytes) 0 (h .off (off e) .bytes)),
+                                (
+                                  implying (not on) (isZ (s .output .q)) (λ e. ap isZ (h .off (off e) .z)),
+                                  (
+                                    implying on (not (s .pins .s)) (λ e. ap not (h .low e)),
+                                    (
+                                      implying on (s .pins .w || s .selection .seen) (λ e. or-of (s .pins .w) (s .selection .seen) (h .saw e)),
+                                      (
+                                        implying (busy s) (eqb (s .input .bytes) 0 || facts (s .command .instruction) .taken || s .command .away) (λ e. turned-of (s .input .bytes) (facts (s .command .instruction) .taken) (s .command .away) (h .turned e)),
+                                        (
+                                          implying on (s .pins .c || Bool·beq (s .selection .held) (not (s .pins .hold))) (λ e. or-of (s .pins .c) (Bool·beq (s .selection .held) (not (s .pins .hold))) (λ c. rw (k .holds e c) (beq-same (not (s .pins .hold))))),
+                                          (
+                                            marks-of (drop (row .page) (w .latch)) (λ i. rw (getD-drop (row .page) (w .latch) i 0) (h .marks i)),
+                                            tt,
+                                          ),
+                                        ),
+                                      ),
+                                    ),
+                                  ),
+                                ),
+                              ),
+                            ),
+                          ),
+                        ),
+                      ),
+                    ),
+                  ),
+                ),
+              ),
+            ),
+          ),
+        ),
+      )
 
 pub reads : Reads
 reads row w = (facts-of row w, test-of row w)

@@ -1,13 +1,12 @@
 -- Facts on address width and page size, over the width; and that every row of the device table has the widths that they ask for.
-use Prim.Native.Nat.{ℕ, zero, suc, _+_, _-_, _*_, _/_, _%_, _^_, _≤_, _<_}
-use mathlib.Core.Path.{_≡_, refl, sym, ap, _∙_, subst}
-use mathlib.Core.Bool.{Bool}
+use Prim.Native.Nat.{ℕ, zero, suc, _+_, _-_, _*_, _/_, _%_, _^_, _<_}
+use mathlib.Core.Path.{_≡_, refl, subst}
 use native.Mathlib.Nat.{mod-lt, mul-mod-left, div-add-mod', div-lt-iff-lt-mul, mul-le-mul-right}
 use native.Mathlib.Omega.{arith}
-use lib.Pow.{pow-pos, pow-lt, pow-add}
+use lib.Pow.{pow-lt, pow-add}
 use lib.Dec.{T, leb, ltb, lit<, lit≤}
 use lib.ListN.{getD}
-use Rattle.rules.specs.World.{Row, number}
+use Rattle.rules.specs.World.{Row}
 use Rattle.rules.specs.Device.{Widths, table, m95040, m95128, m95m01, m95m02, rowOf}
 use Rattle.rules.specs.Instruction.{longer}
 use Rattle.rules.specs.Receive.{rolled}
@@ -23,7 +22,7 @@ made row k p c g three pk one few time =
       smaller = lit< pk;
       oneByte = lit≤ one;
       threeBytes = lit≤ few;
-      lasts = lit≤ time
+      lasts = lit≤ time;
     }
 
 -- The table is read by place, so a row more in it is a line more here.

@@ -1,10 +1,9 @@
 -- 01, "Numbers given back": the whole outcome of each public call, for every input. Refusals are read from top to bottom.
-use Rattle.rules.specs.World.{ℕ, _+_, _-_, _%_, Bool, not, _&&_, _||_, List, [], take, drop, length, eqb, leb, if_then_else_}
-use Rattle.rules.specs.World.{Row, Event, State, World}
+use Rattle.rules.specs.World.{ℕ, _+_, _&&_, ltb, getD, _-_, _%_, not, List, [], take, drop, length, eqb, leb, if_then_else_, Event, World}
 use Rattle.rules.specs.Device.{isDevice, rowOf, preparedState, prepared}
 use Rattle.rules.specs.Sound.{isSound}
 use Rattle.rules.specs.Event.{step, answer, refusal}
-use Rattle.rules.specs.Trace.{answerByte, Progress, run}
+use Rattle.rules.specs.Trace.{two, answerByte, Progress, run}
 
 -- 1 to 4: no such device; cells, identification page or latch of a wrong length.
 unfoldable pub lentRefusal : ℕ → World → ℕ
@@ -70,3 +69,21 @@ unfoldable pub identificationPageOutcome : ℕ → List ℕ → Shown
 identificationPageOutcome device identification =
     let n : ℕ = if not (isDevice device) then 1 else if not (eqb (length identification) (rowOf device .page)) then 3 else 0 in
     record { number = n; part = if eqb n 0 then identification else [] }
+
+-- 01, "Bench program": its first record, which names the device. 12 for a long input, before all else; then 6, 7, 8, 6, 1: kind 16, length 3, device 1 or 2.
+pub record First : Type 0 where
+  pub number : ℕ
+  pub device : ℕ
+
+unfoldable pub firstRecord : List ℕ → First
+firstRecord input =
+    let device = getD input 4 0 in
+    let n : ℕ =
+    if ltb 32_768 (length input) then 12
+    else if ltb (length input) 4 then 6
+    else if not (eqb (two input 2) 16) then 7
+    else if not (eqb (two input 0) 3) then 8
+    else if ltb (length input) 5 then 6
+    else if not (leb 1 device && leb device 2) then 1
+    else 0 in
+    record { number = n; device = device }

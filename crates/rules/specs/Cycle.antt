@@ -1,6 +1,5 @@
 -- 01, "Events", wait: time passes, and what the end of a cycle changes.
-use Rattle.rules.specs.World.{ℕ, zero, suc, _+_, _-_, Bool, not, _&&_, _||_, List, getD, set, eqb, leb, if_then_else_}
-use Rattle.rules.specs.World.{Row, Kind, State, World, withStored}
+use Rattle.rules.specs.World.{ℕ, zero, suc, _+_, _-_, not, _&&_, _||_, List, getD, set, eqb, leb, if_then_else_, Row, Kind, World, withStored}
 use Rattle.rules.specs.Instruction.{changes, busy}
 
 -- The first n latch bytes of a page go to their places from a on, where they are marked. This is the one rule by which stored bytes change.

@@ -1,23 +1,18 @@
 -- The device table, and preparing a device.
-use Rattle.rules.specs.World.{ℕ, suc, _-_, _*_, _^_, _≤_, _<_, _≡_, Bool, true, false, _&&_, List, [], _∷_, _++_, getD, length, replicate, eqb, leb, if_then_else_}
-use Rattle.rules.specs.World.{Row, Instruction, Kind, Level, State, World}
+use Rattle.rules.specs.World.{ℕ, _-_, _*_, _^_, _≤_, _<_, _≡_, Bool, true, false, _&&_, List, [], _∷_, _++_, getD, length, replicate, eqb, leb, if_then_else_, Row, Instruction, Kind, Level, State, World}
 
--- 01, "What the bench models": one row for each device. The last column says whether the identification page starts with ST's code.
-abbrev pub device : ℕ → ℕ → ℕ → ℕ → Bool → Bool → Row
-device cells page width time srwd coded = record { cells = cells; page = page; width = width; time = time; srwd = srwd; coded = coded }
-
---               cells page address-bytes write-time SRWD code
+-- 01, "What the bench models": one row for each device. `coded`: ST's code stands at the start of the identification page.
 abbrev pub m95040 : Row
-m95040 = device 512 16 1 5000 false false
+m95040 = record { cells = 512; page = 16; width = 1; time = 5000; srwd = false; coded = false }
 
 abbrev pub m95128 : Row
-m95128 = device 16_384 64 2 5000 true false
+m95128 = record { cells = 16_384; page = 64; width = 2; time = 5000; srwd = true; coded = false }
 
 abbrev pub m95m01 : Row
-m95m01 = device 131_072 256 3 4000 true false
+m95m01 = record { cells = 131_072; page = 256; width = 3; time = 4000; srwd = true; coded = false }
 
 abbrev pub m95m02 : Row
-m95m02 = device 262_144 256 3 5000 true true
+m95m02 = record { cells = 262_144; page = 256; width = 3; time = 5000; srwd = true; coded = true }
 
 abbrev pub table : List Row
 table = m95040 ∷ m95128 ∷ m95m01 ∷ m95m02 ∷ []

@@ -1,6 +1,5 @@
 -- 01, "Events": each event, the hold rule after it, and what Q answers.
-use Rattle.rules.specs.World.{ℕ, Bool, true, false, not, _&&_, _||_, List, [], _∷_, eqb, if_then_else_}
-use Rattle.rules.specs.World.{Row, Instruction, Level, Event, Pins, State, World, withPins, withSelection, withStored, withState}
+use Rattle.rules.specs.World.{ℕ, Bool, true, false, not, _&&_, _||_, List, [], _∷_, eqb, if_then_else_, Row, Instruction, Level, Event, Pins, State, World, withPins, withSelection, withStored, withState}
 use Rattle.rules.specs.Instruction.{busy}
 use Rattle.rules.specs.Receive.{rise}
 use Rattle.rules.specs.Send.{fall}

@@ -1,6 +1,5 @@
 -- 01, "Proved examples", all twelve in one table; and its "Readings that look right and are not", each shown to be wrong in a second.
-use Rattle.rules.specs.World.{ℕ, zero, suc, _+_, _*_, _≡_, Bool, true, false, List, [], _∷_, _++_, map, getD, bit}
-use Rattle.rules.specs.World.{Row, Level, Event, World}
+use Rattle.rules.specs.World.{ℕ, zero, suc, _+_, _*_, _≡_, true, false, List, [], _∷_, _++_, map, getD, bit, Row, Level, Event, World}
 use Rattle.rules.specs.Device.{rowOf, prepared}
 use Rattle.rules.specs.Event.{answer, after}
 
@@ -13,16 +12,12 @@ abbrev pub bytesIn : List ℕ → List Event
 bytesIn [] = []
 bytesIn (b ∷ bs) = bitsIn 8 b ++ bytesIn bs
 
--- What a person at the bench does: bytes in one selection, then some bits more; bytes, and reading n bytes of answer; any events; looking at a cell.
+-- What a person at the bench does: bytes in one selection, then some bits more; bytes, and hearing n bytes of answer; any events; looking at a cell.
 pub data Act : Type 0 where
   send : List ℕ → ℕ → Act
   ask : List ℕ → ℕ → Act
   events : List Event → Act
   cell : ℕ → Act
-
-pub record Seen : Type 0 where
-  pub world : World
-  pub seen : List ℕ
 
 -- A bit of Q; Z counts as 256, so that no byte with one is below 256.
 abbrev pub heardBit : Level → ℕ
@@ -30,36 +25,27 @@ heardBit Level.Low = 0
 heardBit Level.High = 1
 heardBit Level.Z = 256
 
-abbrev pub hear : Row → ℕ → ℕ → World → Seen
-hear row zero v w = record { world = w; seen = v ∷ [] }
+-- The world then, and what was seen: n bits more, onto v; n bytes, and the end of the selection.
+abbrev pub hear : Row → ℕ → ℕ → World → World × List ℕ
+hear row zero v w = (w, v ∷ [])
 hear row (suc n) v w = hear row n (v * 2 + heardBit (answer (w .state))) (after row (Event.Clock true ∷ Event.Clock false ∷ []) w)
 
-abbrev pub hearBytes : Row → ℕ → World → Seen
-hearBytes row zero w = record { world = after row (Event.Select true ∷ []) w; seen = [] }
+abbrev pub hearBytes : Row → ℕ → World → World × List ℕ
+hearBytes row zero w = (after row (Event.Select true ∷ []) w, [])
 hearBytes row (suc n) w =
     let h = hear row 8 0 w in
-    let r = hearBytes row n (h .world) in
-    record { world = r .world; seen = h .seen ++ r .seen }
+    let r = hearBytes row n (h .0) in
+    (r .0, h .1 ++ r .1)
 
-abbrev pub does : Row → Act → World → Seen
-does row (send bs n) w = record { world = after row (Event.Select false ∷ bytesIn bs ++ bitsIn n 0 ++ Event.Select true ∷ []) w; seen = [] }
+abbrev pub does : Row → Act → World → World × List ℕ
+does row (send bs n) w = (after row (Event.Select false ∷ bytesIn bs ++ bitsIn n 0 ++ Event.Select true ∷ []) w, [])
 does row (ask bs n) w = hearBytes row n (after row (Event.Select false ∷ bytesIn bs) w)
-does row (events es) w = record { world = after row es w; seen = [] }
-does row (cell a) w = record { world = w; seen = getD (w .cells) a 0 ∷ [] }
+does row (events es) w = (after row es w, [])
+does row (cell a) w = (w, getD (w .cells) a 0 ∷ [])
 
 abbrev pub sees : Row → List Act → World → List ℕ
 sees row [] w = []
-sees row (a ∷ rest) w = let h = does row a w in h .seen ++ sees row rest (h .world)
-
--- A line: the example's number, the device, what is done from a prepared device, and what is then seen.
-pub record Example : Type 0 where
-  pub number : ℕ
-  pub device : ℕ
-  pub acts : List Act
-  pub expected : List ℕ
-
-abbrev line : ℕ → ℕ → List Act → List ℕ → Example
-line number device acts expected = record { number = number; device = device; acts = acts; expected = expected }
+sees row (a ∷ rest) w = let h = does row a w in h .1 ++ sees row rest (h .0)
 
 abbrev say : List ℕ → Act
 say bs = send bs 0
@@ -80,44 +66,38 @@ full = pause 5000
 abbrev rolls : Act
 rolls = say (0x02 ∷ 0x00 ∷ 0x3E ∷ 0xA1 ∷ 0xA2 ∷ 0xA3 ∷ [])
 
-abbrev pub examples : List Example
+-- A line: its number in 01, the device, what is done from a prepared device, and what is then seen.
+abbrev pub Line : Type 0
+Line = ℕ × ℕ × List Act × List ℕ
+
+abbrev pub examples : List Line
 examples =
-    line 1 1 (wren ∷ status ∷ []) (0x02 ∷ [])
-    ∷ line 2 1 (say (0x0E ∷ []) ∷ status ∷ []) (0x02 ∷ [])
-    ∷ line 2 2 (say (0x0E ∷ []) ∷ status ∷ []) (0x00 ∷ [])
-    ∷ line 3 2 (wren ∷ rolls ∷ full ∷ cell 0x3E ∷ cell 0x3F ∷ cell 0 ∷ []) (0xA1 ∷ 0xA2 ∷ 0xA3 ∷ [])
-    ∷ line 4 2 (wren ∷ rolls ∷ pause 4999 ∷ status ∷ cell 0x3E ∷ cell 0x3F ∷ cell 0 ∷ []) (0x03 ∷ 0xFF ∷ 0xFF ∷ 0xFF ∷ [])
-    ∷ line 4 2 (wren ∷ rolls ∷ pause 4999 ∷ pause 1 ∷ status ∷ cell 0x3E ∷ cell 0x3F ∷ cell 0 ∷ []) (0x00 ∷ 0xA1 ∷ 0xA2 ∷ 0xA3 ∷ [])
-    ∷ line 5 3 (wren ∷ say (0x02 ∷ 0x00 ∷ 0x00 ∷ 0x00 ∷ 0x77 ∷ []) ∷ pause 3999 ∷ status ∷ pause 1 ∷ status ∷ []) (0x03 ∷ 0x00 ∷ [])
-    ∷ line 6 4 (wren ∷ say (0x02 ∷ 0x00 ∷ 0x00 ∷ 0x00 ∷ 0x77 ∷ []) ∷ full ∷ ask (0x03 ∷ 0x03 ∷ 0xFF ∷ 0xFF ∷ []) 2 ∷ []) (0xFF ∷ 0x77 ∷ [])
-    ∷ line 7 2
-        (wren ∷ say (0x01 ∷ 0x08 ∷ []) ∷ full ∷ wren ∷ say (0x02 ∷ 0x1F ∷ 0xFF ∷ 0x11 ∷ []) ∷ full ∷ cell 0x1FFF ∷ wren ∷ say (0x02 ∷ 0x20 ∷ 0x00 ∷ 0x22 ∷ []) ∷ full ∷ cell 0x2000 ∷ status ∷ [])
-        (0x11 ∷ 0xFF ∷ 0x0A ∷ [])
-    ∷ line 8 1 (wren ∷ say (0x0A ∷ 0xFF ∷ 0x55 ∷ []) ∷ full ∷ cell 0x1FF ∷ []) (0x55 ∷ [])
-    ∷ line 9 1 (send (0x06 ∷ []) 1 ∷ status ∷ []) (0x00 ∷ [])
-    ∷ line 10 2
-        (wren ∷ send (0x02 ∷ 0x00 ∷ 0x05 ∷ []) 7 ∷ full ∷ cell 5 ∷ send (0x02 ∷ 0x00 ∷ 0x05 ∷ 0x66 ∷ []) 1 ∷ full ∷ cell 5 ∷ say (0x02 ∷ 0x00 ∷ 0x05 ∷ 0x66 ∷ []) ∷ full ∷ cell 5 ∷ [])
-        (0xFF ∷ 0xFF ∷ 0x66 ∷ [])
-    ∷ line 11 4 (ask (0x83 ∷ 0x00 ∷ 0x04 ∷ 0x00 ∷ []) 1 ∷ wren ∷ say (0x82 ∷ 0x00 ∷ 0x04 ∷ 0x00 ∷ 0x02 ∷ []) ∷ full ∷ ask (0x83 ∷ 0x00 ∷ 0x04 ∷ 0x00 ∷ []) 1 ∷ []) (0x00 ∷ 0x01 ∷ [])
-    ∷ line 12 2
-        (wren ∷ say (0x01 ∷ 0xFF ∷ []) ∷ full ∷ status ∷ events (Event.Protect false ∷ []) ∷ wren ∷ say (0x01 ∷ 0x00 ∷ []) ∷ full ∷ status ∷ [])
-        (0x8C ∷ 0x8E ∷ [])
+    (1, 1, wren ∷ status ∷ [], 0x02 ∷ [])
+    ∷ (2, 1, say (0x0E ∷ []) ∷ status ∷ [], 0x02 ∷ [])
+    ∷ (2, 2, say (0x0E ∷ []) ∷ status ∷ [], 0x00 ∷ [])
+    ∷ (3, 2, wren ∷ rolls ∷ full ∷ cell 0x3E ∷ cell 0x3F ∷ cell 0 ∷ [], 0xA1 ∷ 0xA2 ∷ 0xA3 ∷ [])
+    ∷ (4, 2, wren ∷ rolls ∷ pause 4999 ∷ status ∷ cell 0x3E ∷ cell 0x3F ∷ cell 0 ∷ [], 0x03 ∷ 0xFF ∷ 0xFF ∷ 0xFF ∷ [])
+    ∷ (4, 2, wren ∷ rolls ∷ pause 4999 ∷ pause 1 ∷ status ∷ cell 0x3E ∷ cell 0x3F ∷ cell 0 ∷ [], 0x00 ∷ 0xA1 ∷ 0xA2 ∷ 0xA3 ∷ [])
+    ∷ (5, 3, wren ∷ say (0x02 ∷ 0x00 ∷ 0x00 ∷ 0x00 ∷ 0x77 ∷ []) ∷ pause 3999 ∷ status ∷ pause 1 ∷ status ∷ [], 0x03 ∷ 0x00 ∷ [])
+    ∷ (6, 4, wren ∷ say (0x02 ∷ 0x00 ∷ 0x00 ∷ 0x00 ∷ 0x77 ∷ []) ∷ full ∷ ask (0x03 ∷ 0x03 ∷ 0xFF ∷ 0xFF ∷ []) 2 ∷ [], 0xFF ∷ 0x77 ∷ [])
+    ∷ (7, 2, wren ∷ say (0x01 ∷ 0x08 ∷ []) ∷ full ∷ wren ∷ say (0x02 ∷ 0x1F ∷ 0xFF ∷ 0x11 ∷ []) ∷ full ∷ cell 0x1FFF ∷ wren ∷ say (0x02 ∷ 0x20 ∷ 0x00 ∷ 0x22 ∷ []) ∷ full ∷ cell 0x2000 ∷ status ∷ [], 0x11 ∷ 0xFF ∷ 0x0A ∷ [])
+    ∷ (8, 1, wren ∷ say (0x0A ∷ 0xFF ∷ 0x55 ∷ []) ∷ full ∷ cell 0x1FF ∷ [], 0x55 ∷ [])
+    ∷ (9, 1, send (0x06 ∷ []) 1 ∷ status ∷ [], 0x00 ∷ [])
+    ∷ (9, 2, send (0x06 ∷ []) 1 ∷ status ∷ [], 0x00 ∷ [])
+    ∷ (10, 2, wren ∷ send (0x02 ∷ 0x00 ∷ 0x05 ∷ []) 7 ∷ full ∷ cell 5 ∷ send (0x02 ∷ 0x00 ∷ 0x05 ∷ 0x66 ∷ []) 1 ∷ full ∷ cell 5 ∷ say (0x02 ∷ 0x00 ∷ 0x05 ∷ 0x66 ∷ []) ∷ full ∷ cell 5 ∷ [], 0xFF ∷ 0xFF ∷ 0x66 ∷ [])
+    ∷ (11, 4, ask (0x83 ∷ 0x00 ∷ 0x04 ∷ 0x00 ∷ []) 1 ∷ wren ∷ say (0x82 ∷ 0x00 ∷ 0x04 ∷ 0x00 ∷ 0x02 ∷ []) ∷ full ∷ ask (0x83 ∷ 0x00 ∷ 0x04 ∷ 0x00 ∷ []) 1 ∷ [], 0x00 ∷ 0x01 ∷ [])
+    ∷ (12, 2, wren ∷ say (0x01 ∷ 0xFF ∷ []) ∷ full ∷ status ∷ events (Event.Protect false ∷ []) ∷ wren ∷ say (0x01 ∷ 0x00 ∷ []) ∷ full ∷ status ∷ [], 0x8C ∷ 0x8E ∷ [])
     ∷ []
 
 -- Readings that look right: a WRITE in a cycle leaves that cycle's latch alone; S low after power selects nothing; W low for a moment stops WRSR.
 -- (That cells do not change when S rises, and that a page write does not go on into the next page, examples 4 and 3 show.)
-abbrev pub readings : List Example
+abbrev pub readings : List Line
 readings =
-    line 2 2 (wren ∷ rolls ∷ say (0x02 ∷ 0x00 ∷ 0x3E ∷ 0xB1 ∷ []) ∷ full ∷ cell 0x3E ∷ cell 0x3F ∷ cell 0 ∷ status ∷ []) (0xA1 ∷ 0xA2 ∷ 0xA3 ∷ 0x00 ∷ [])
-    ∷ line 3 2 (events (Event.Select false ∷ Event.Power ∷ bytesIn (0x06 ∷ []) ++ Event.Select false ∷ Event.Select true ∷ []) ∷ status ∷ []) (0x00 ∷ [])
-    ∷ line 5 2
-        (wren ∷ say (0x01 ∷ 0x80 ∷ []) ∷ full ∷ wren ∷ events (Event.Select false ∷ bytesIn (0x01 ∷ []) ++ Event.Protect false ∷ Event.Protect true ∷ bytesIn (0x0C ∷ []) ++ Event.Select true ∷ []) ∷ full ∷ status ∷ [])
-        (0x82 ∷ [])
+    (2, 2, wren ∷ rolls ∷ say (0x02 ∷ 0x00 ∷ 0x3E ∷ 0xB1 ∷ []) ∷ full ∷ cell 0x3E ∷ cell 0x3F ∷ cell 0 ∷ status ∷ [], 0xA1 ∷ 0xA2 ∷ 0xA3 ∷ 0x00 ∷ [])
+    ∷ (3, 2, events (Event.Select false ∷ Event.Power ∷ bytesIn (0x06 ∷ []) ++ Event.Select false ∷ Event.Select true ∷ []) ∷ status ∷ [], 0x00 ∷ [])
+    ∷ (5, 2, wren ∷ say (0x01 ∷ 0x80 ∷ []) ∷ full ∷ wren ∷ events (Event.Select false ∷ bytesIn (0x01 ∷ []) ++ Event.Protect false ∷ Event.Protect true ∷ bytesIn (0x0C ∷ []) ++ Event.Select true ∷ []) ∷ full ∷ status ∷ [], 0x82 ∷ [])
     ∷ []
 
-abbrev pub outcome : Example → List ℕ
-outcome e = sees (rowOf (e .device)) (e .acts) (prepared (rowOf (e .device)))
-
--- The theorems `examples` and `readings`: every line is seen as expected.
-abbrev pub Hold : List Example → Type 0
-Hold lines = map outcome lines ≡ map (λ (e : Example). e .expected) lines
+-- The theorems `examples` and `readings`: each line is seen as expected.
+abbrev pub Hold : List Line → Type 0
+Hold lines = map (λ (l : Line). sees (rowOf (l .1)) (l .2) (prepared (rowOf (l .1)))) lines ≡ map (λ (l : Line). l .3) lines

@@ -1,6 +1,5 @@
 -- 01, "Instructions": the codes, what each instruction is and does, and forming an address.
-use Rattle.rules.specs.World.{ℕ, _+_, _-_, _*_, _/_, _%_, _^_, Bool, true, false, not, _&&_, _||_, List, [], _∷_, eqb, leb, if_then_else_, bit, number}
-use Rattle.rules.specs.World.{Row, Instruction, Kind, State}
+use Rattle.rules.specs.World.{ℕ, _+_, _-_, _*_, _%_, Bool, true, false, not, _&&_, _||_, List, [], _∷_, eqb, if_then_else_, bit, number, Row, Instruction, Kind, State}
 use Rattle.rules.specs.declared.Instruction.the-variants.{Wren, Wrdi, Rdsr, Wrsr, Read, Write, Rdid, Rdls, Wrid, Lid, Unknown}
 use Rattle.rules.specs.Device.{single}
 
@@ -37,27 +36,15 @@ facts Wrid = fact false true true Lid silent false false Kind.Identification
 facts Lid = fact false true false Lid silent false false Kind.Lock
 facts Unknown = fact false false false Unknown silent false false Kind.None
 
--- The codes. Where the address is one byte, bit 3 of the first six does not count; the last two are exact.
-pub record Code : Type 0 where
-  pub code : ℕ
-  pub exact : Bool
-  pub means : Instruction
-
-abbrev coded : ℕ → Bool → Instruction → Code
-coded code exact means = record { code = code; exact = exact; means = means }
-
-abbrev pub codes : List Code
+-- The codes, whether each is exact, and what it means. Where the address is one byte, bit 3 does not count in a code that is not exact.
+abbrev pub codes : List (ℕ × Bool × Instruction)
 codes =
-    coded 0x06 false Wren ∷ coded 0x04 false Wrdi ∷ coded 0x05 false Rdsr ∷ coded 0x01 false Wrsr ∷ coded 0x03 false Read
-    ∷ coded 0x02 false Write ∷ coded 0x83 true Rdid ∷ coded 0x82 true Wrid ∷ []
+    (0x06, false, Wren) ∷ (0x04, false, Wrdi) ∷ (0x05, false, Rdsr) ∷ (0x01, false, Wrsr) ∷ (0x03, false, Read) ∷ (0x02, false, Write)
+    ∷ (0x83, true, Rdid) ∷ (0x82, true, Wrid) ∷ []
 
--- A code without its bit 3.
-abbrev pub withoutA8 : ℕ → ℕ
-withoutA8 c = c - number (bit c 3) * 8
-
-abbrev pub lookUp : Row → ℕ → List Code → Instruction
+abbrev pub lookUp : Row → ℕ → List (ℕ × Bool × Instruction) → Instruction
 lookUp row c [] = Unknown
-lookUp row c (k ∷ ks) = if eqb (if single row && not (k .exact) then withoutA8 c else c) (k .code) then k .means else lookUp row c ks
+lookUp row c (k ∷ ks) = if eqb (if single row && not (k .1) then c - number (bit c 3) * 8 else c) (k .0) then k .2 else lookUp row c ks
 
 unfoldable pub decode : Row → ℕ → Instruction
 decode row c = lookUp row c codes

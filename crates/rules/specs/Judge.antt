@@ -1,6 +1,5 @@
 -- 01, "Instructions", judged at the rise of S and done only if all holds; and what starts.
-use Rattle.rules.specs.World.{ℕ, _+_, _-_, _*_, _/_, _%_, Bool, true, false, not, _&&_, _||_, eqb, leb, ltb, if_then_else_, bit, number}
-use Rattle.rules.specs.World.{Row, Kind, State, withStored}
+use Rattle.rules.specs.World.{ℕ, _+_, _-_, _*_, _/_, _%_, Bool, not, _&&_, _||_, eqb, leb, ltb, if_then_else_, bit, number, Row, Kind, State, withStored}
 use Rattle.rules.specs.Device.{single}
 use Rattle.rules.specs.Instruction.{facts, changes}
 
@@ -33,10 +32,13 @@ allows row s Kind.Lock =
     eqb (s .input .bytes) (2 + row .width) && s .registers .wel && not (isShut s) && not (s .selection .seen && single row)
     && bit (s .input .last) 1
 
+-- The decoded rises are a multiple of eight.
+unfoldable pub isWhole : State → Bool
+isWhole s = eqb (s .input .bits) 0
+
 -- Done: not dropped in hold, not turned away, whole bytes, and what the command asks for.
 unfoldable pub isDone : Row → State → Bool
-isDone row s =
-    not (s .selection .held) && not (s .command .away) && eqb (s .input .bits) 0 && allows row s (facts (s .command .instruction) .starts)
+isDone row s = not (s .selection .held) && not (s .command .away) && isWhole s && allows row s (facts (s .command .instruction) .starts)
 
 -- A cycle's page start: WRITE's page, 0 for the identification page; the others have none and leave it.
 abbrev pub startOf : Row → State → Kind → ℕ

@@ -1,6 +1,5 @@
 -- 01, "Events", C rises: what a decoded rise takes in, and what a whole byte does.
-use Rattle.rules.specs.World.{ℕ, _+_, _-_, _*_, _%_, Bool, true, false, not, _&&_, _||_, List, _++_, set, take, replicate, eqb, leb, ltb, min, if_then_else_, number}
-use Rattle.rules.specs.World.{Row, Input, Command, State, World, withSelection, withLatch, withState}
+use Rattle.rules.specs.World.{ℕ, _+_, _-_, _*_, _%_, Bool, not, _&&_, List, _++_, set, take, replicate, eqb, ltb, min, if_then_else_, number, Row, Input, Command, State, World, withSelection, withLatch, withState}
 use Rattle.rules.specs.Instruction.{facts, decode, latches, turnedAway, commandBytes, startAddress, longer, lockBit}
 
 -- A byte is the code, or the last or another byte of the address, or data. A command that was turned away has neither address nor data.

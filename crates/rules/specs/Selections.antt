@@ -1,6 +1,5 @@
 -- Demand 3: a selection whose decoded clock rises number zero, or are no multiple of eight, may be taken out.
-use Rattle.rules.specs.World.{ℕ, suc, _%_, _≡_, Bool, true, false, not, _&&_, List, [], _∷_, _++_, eqb, if_then_else_}
-use Rattle.rules.specs.World.{Row, Level, Event, World}
+use Rattle.rules.specs.World.{ℕ, suc, _%_, _≡_, Bool, true, false, not, _&&_, List, [], _∷_, _++_, eqb, if_then_else_, Row, Level, Event, World}
 use Rattle.rules.specs.Device.{Widths, m95128, prepared}
 use Rattle.rules.specs.Send.{statusByte}
 use Rattle.rules.specs.Event.{pinsAfter, decodes, answer, refusal, next, after}
@@ -16,17 +15,20 @@ pub record Contents : Type 0 where
   pub locked : Bool
 
 abbrev pub contents : World → Contents
-contents w = record { cells = w .cells; identification = w .identification; status = w .state .registers .status; byte = statusByte (w .state); locked = w .state .registers .locked }
+contents w =
+    record {
+      cells = w .cells;
+      identification = w .identification;
+      status = w .state .registers .status;
+      byte = statusByte (w .state);
+      locked = w .state .registers .locked;
+    }
 
-pub record Visible : Type 0 where
-  pub number : ℕ
-  pub q : Level
-  pub contents : Contents
+abbrev pub Visible : Type 0
+Visible = ℕ × Level × Contents
 
 abbrev pub visible : Row → Event → World → Visible
-visible row e w =
-    let n = refusal e (w .state) in
-    record { number = n; q = if eqb n 0 then answer (next row e w .state) else Level.Z; contents = contents (next row e w) }
+visible row e w = let n = refusal e (w .state) in (n, if eqb n 0 then answer (next row e w .state) else Level.Z, contents (next row e w))
 
 abbrev pub sights : Row → List Event → World → List Visible
 sights row [] w = []
@@ -56,18 +58,18 @@ pub data Cut (row : Row) : World → List Event → List Event → Type 0 where
   done : {w : World} → Cut row w [] []
   keep : {w : World} {es ks : List Event} (e : Event) → Cut row (next row e w) es ks → Cut row w (e ∷ es) (e ∷ ks)
   drop : {w : World} {es ks inner kept : List Event} → w .state .selection .selected ≡ false → w .state .pins .s ≡ true
-    → Inside inner kept
-    → Broken (rises row inner (next row (Event.Select false) w) 0)
-    → Cut row (next row (Event.Select true) (after row inner (next row (Event.Select false) w))) es ks
-    → Cut row w (Event.Select false ∷ inner ++ Event.Select true ∷ es) (kept ++ ks)
+      → Inside inner kept
+      → Broken (rises row inner (next row (Event.Select false) w) 0)
+      → Cut row (next row (Event.Select true) (after row inner (next row (Event.Select false) w))) es ks
+      → Cut row w (Event.Select false ∷ inner ++ Event.Select true ∷ es) (kept ++ ks)
 
 -- What is seen of each event outside those selections: in the run itself, and in the run of what is left, from t.
-pub heard : {row : Row} {w : World} {es ks : List Event} → Cut row w es ks → List Visible
+unfoldable pub heard : {row : Row} {w : World} {es ks : List Event} → Cut row w es ks → List Visible
 heard done = []
 heard {row} {w} (keep e c) = visible row e w ∷ heard c
 heard (drop o s i b c) = heard c
 
-pub heardLeft : {row : Row} {w : World} {es ks : List Event} → Cut row w es ks → World → List Visible
+unfoldable pub heardLeft : {row : Row} {w : World} {es ks : List Event} → Cut row w es ks → World → List Visible
 heardLeft done t = []
 heardLeft {row} (keep e c) t = visible row e t ∷ heardLeft c (next row e t)
 heardLeft {row} (drop {kept = kept} o s i b c) t = heardLeft c (after row kept t)

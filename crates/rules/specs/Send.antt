@@ -1,6 +1,5 @@
 -- 01, "Events", C falls, and "Instructions", what is sent: READ, RDID, RDLS, RDSR.
-use Rattle.rules.specs.World.{ℕ, _+_, _-_, _*_, _%_, Bool, true, false, not, _&&_, _||_, List, getD, eqb, leb, min, if_then_else_, bit, number}
-use Rattle.rules.specs.World.{Row, Level, State, World, withSelection, withState}
+use Rattle.rules.specs.World.{ℕ, _+_, _-_, _*_, _%_, Bool, true, false, not, _&&_, List, getD, eqb, leb, min, if_then_else_, bit, number, Row, Level, State, World, withSelection, withState}
 use Rattle.rules.specs.Instruction.{Source, silent, fromStatus, fromCells, fromIdentification, fromLock, facts, busy, commandBytes}
 
 -- RDSR's byte: bit 0 WIP, 1 WEL, and the stored bits in their places.
@@ -61,5 +60,5 @@ fall row decoded w =
     let q = if past then Level.Z else level (bit b (7 - s .input .bits)) in
     withState
     (withSelection (if shows then a else s .place .address) (s .selection) (s .input) (s .command)
-      (if shows then record { sending = b; q = q } else s .output) s)
+    (if shows then record { sending = b; q = q } else s .output) s)
     w

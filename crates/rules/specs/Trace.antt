@@ -1,6 +1,5 @@
 -- 01, "Traces": records, and running them within a limit.
-use Rattle.rules.specs.World.{ℕ, zero, suc, _+_, _-_, _*_, _/_, Bool, not, _&&_, _||_, List, [], _∷_, getD, set, length, eqb, leb, ltb, if_then_else_, bit}
-use Rattle.rules.specs.World.{Row, Level, Event, State, World}
+use Rattle.rules.specs.World.{ℕ, zero, suc, _+_, _-_, _*_, _/_, Bool, not, _&&_, _||_, List, [], _∷_, getD, set, length, eqb, leb, ltb, if_then_else_, bit, Row, Level, Event, State, World}
 use Rattle.rules.specs.Event.{step, answer, refusal}
 
 -- Little-endian numbers of two and four bytes.

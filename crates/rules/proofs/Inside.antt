@@ -1,27 +1,26 @@
 -- Inside a selection, beside the twin that has none: what a broken selection changes that its twin has not.
-use Prim.Native.Nat.{ℕ, zero, suc, _+_, _*_, _%_, _≤_}
+use Prim.Native.Nat.{ℕ, suc, _+_, _*_, _%_}
 use mathlib.Core.Path.{_≡_, refl, sym, ap, _∙_, subst, subst₂}
-use mathlib.Core.Bool.{Bool, true, false, not, _&&_, _||_}
-use mathlib.Core.List.{List, [], _∷_}
+use mathlib.Core.Bool.{Bool, true, false, not, _&&_, and-false}
+use mathlib.Core.List.{List}
 use native.Mathlib.Omega.{arith}
 use lib.ListN.{length}
-use lib.Dec.{eqb, leb, ltb}
-use borrow.Author.Tests.{eqb-true, eqb-false, ltb-true, ne-eqb, le-ltb}
-use Rattle.rules.specs.World.{Row, Kind, Event, Input, State, World, if_then_else_, number, withPins, withState, withLatch}
+use lib.Dec.{eqb, ltb}
+use borrow.Author.Tests.{eqb-true, eqb-false}
+use Rattle.rules.specs.World.{Row, Kind, Event, Input, World, if_then_else_, number, withPins, withState, withLatch}
 use Rattle.rules.specs.Device.{Widths}
 use Rattle.rules.specs.Instruction.{facts, changes, busy, holdsLatch, latches, decode, turnedAway}
 use Rattle.rules.specs.Receive.{isCode, isLatched, latchAfter, inputAfter, rise}
 use Rattle.rules.specs.Send.{fall}
-use Rattle.rules.specs.Judge.{allows, isDone, judged}
 use Rattle.rules.specs.Cycle.{waited}
-use Rattle.rules.specs.Event.{pinsAfter, selected, deselected, decodes, react, settled, step, next, after}
+use Rattle.rules.specs.Event.{pinsAfter, decodes, react, settled, step, next, after}
 use Rattle.rules.specs.Sound.{Unsettled, Sound, Lent}
-use Rattle.rules.specs.Selections.{Broken, rises, Inside, end, clock, input, low, hold, protect, wait}
-use Rattle.rules.proofs.Choice.{if-elim, if-both, if-no, clash, and-left, and-right, and-both, and-rest}
+use Rattle.rules.specs.Selections.{rises, Inside, end, clock, input, low, hold, protect, wait}
+use Rattle.rules.proofs.Choice.{if-elim, if-no, clash, and-left, and-right, and-both}
 use Rattle.rules.proofs.Latch.{Agree}
 use Rattle.rules.proofs.Received.{lock-form, latch-long}
 use Rattle.rules.proofs.Preserved.{unheld, pinned, preserved}
-use Rattle.rules.proofs.Same.{Left, idle, Same, same, off, waited-bytes, waited-holds}
+use Rattle.rules.proofs.Same.{Left, idle, waited-bytes, waited-holds}
 
 -- The count of decoded rises tells the bits received, and none means no byte.
 pub record Counted (n : ℕ) (i : Input) : Type 0 where
@@ -33,7 +32,7 @@ twinOf l y w = withLatch l (withState (idle y (withPins (pinsAfter (Event.Select
 
 pub data In (row : Row) (n : ℕ) : World → World → Type 0 where
   twin : (w : World) (l : List ℕ) (y : Left) → length l ≡ length (w .latch) → w .state .selection .selected ≡ true → Counted n (w .state .input)
-    → (holdsLatch (w .state .cycle .kind) ≡ true → Agree row (w .latch) l) → In row n w (twinOf l y w)
+      → (holdsLatch (w .state .cycle .kind) ≡ true → Agree row (w .latch) l) → In row n w (twinOf l y w)
 
 -- While a cycle holds the latch, no byte comes to it.
 module _ {row : Row} (w : World) (k : Unsettled row w) (run : busy (w .state) ≡ true) where
@@ -46,7 +45,7 @@ module _ {row : Row} (w : World) (k : Unsettled row w) (run : busy (w .state) �
       if-elim P (isCode s)
       (λ _. if-elim P (latches i && not (turnedAway s i)) (λ t. clash (sym (and-right (latches i) (not (turnedAway s i)) t) ∙ ap not (and-both (busy s) (not (facts i .taken)) run (ap not (lock-form i .2 (and-left (latches i) (not (turnedAway s i)) t)))))) (λ _. refl))
       (λ e. if-elim P (isLatched row s) (λ t. clash (sym (and-right (ltb (row .width) (s .input .bytes) && latches (s .command .instruction)) (not (s .command .away)) t)
-          ∙ ap not (k .turned run (eqb-false (s .input .bytes) 0 e) (lock-form (s .command .instruction) .2 (and-right (ltb (row .width) (s .input .bytes)) (latches (s .command .instruction)) (and-left (ltb (row .width) (s .input .bytes) && latches (s .command .instruction)) (not (s .command .away)) t)))))) (λ _. refl))
+      ∙ ap not (k .turned run (eqb-false (s .input .bytes) 0 e) (lock-form (s .command .instruction) .2 (and-right (ltb (row .width) (s .input .bytes)) (latches (s .command .instruction)) (and-left (ltb (row .width) (s .input .bytes) && latches (s .command .instruction)) (not (s .command .away)) t)))))) (λ _. refl))
 
 kind-runs : (k : Kind) → holdsLatch k ≡ true → changes k .runs ≡ true
 kind-runs Kind.None e = clash (sym e)
@@ -92,3 +91,56 @@ module _ {row : Row} (v : Widths row) (w : World) (k : Unsettled row w) (long : 
 
 settled-in : {row : Row} {n : ℕ} {w t : World} → In row n w t → In row n (withState (settled (w .state)) w) (withState (settled (t .state)) t)
 settled-in (twin w l y m on c h) = twin (withState (settled (w .state)) w) l y m on c h
+
+-- An event that is no rise of C counts none.
+no-rise : (a c : Bool) → (a && not c && c) ≡ false
+no-rise true true = refl
+no-rise true false = refl
+no-rise false c = refl
+
+uncounted : {row : Row} {n : ℕ} {t : World} (w x : World) → In row n x t → In row (if decodes (w .state) && not (w .state .pins .c) && w .state .pins .c then suc n else n) x t
+uncounted {row} {n} {t} w x g =
+    subst (λ (m : ℕ). In row m x t) (sym (if-no (decodes (w .state) && not (w .state .pins .c) && w .state .pins .c) (suc n) n (no-rise (decodes (w .state)) (w .state .pins .c)))) g
+
+module _ {row : Row} (v : Widths row) where
+  clock-in : {n : ℕ} {w t : World} (b : Bool) → Unsettled row w → Lent row w → In row n w t
+      → In row (if decodes (w .state) && not (w .state .pins .c) && b then suc n else n) (next row (Event.Clock b) w) (next row (Event.Clock b) t)
+  unfolding next step react rise
+  clock-in {n} true k e (twin w l y m on c h) = settled-in (rise-in v w k (e .latch) l y n m on c h (decodes (w .state) && not (w .state .pins .c)))
+  clock-in {n} false k e (twin w l y m on c h) =
+      subst (λ (q : ℕ). In row q (next row (Event.Clock false) w) (next row (Event.Clock false) (twinOf l y w)))
+      (sym (if-no (decodes (w .state) && not (w .state .pins .c) && false) (suc n) n (and-false (decodes (w .state) && not (w .state .pins .c)))))
+      (settled-in (fall-in v w k (e .latch) l y n m on c h))
+
+  -- S set low again is no edge.
+  low-in : {n : ℕ} {w t : World} → Unsettled row w → In row n w t → In row n (next row (Event.Select false) w) t
+  unfolding next step react
+  low-in {n} k (twin w l y m on c h) =
+      rw (k .low on) (twin (withState (settled (withPins (pinsAfter (Event.Select false) (w .state .pins)) (w .state))) w) l y m on c h)
+
+  -- All events inside. What is counted is the rises, and the world stays sound.
+  pub run-in : {n : ℕ} {w t : World} {es ks : List Event} → Inside es ks → Sound row w → Lent row w → In row n w t
+      → Sound row (after row es w) × Lent row (after row es w) × In row (rises row es w n) (after row es w) (after row ks t)
+  unfolding next step react
+  run-in end k e g = (k, e, g)
+  run-in {n} {w} (clock b i) k e g =
+      let p = preserved row v (Event.Clock b) w k e in
+      run-in i (p .0) (p .1) (clock-in b (k .unsettled) e g)
+  run-in {n} (input b i) k e (twin w l y m on c h) =
+      let p = preserved row v (Event.Data b) w k e in
+      run-in i (p .0) (p .1) (uncounted w (next row (Event.Data b) w) (settled-in (twin (pinned (Event.Data b) w) l y m on c h)))
+  run-in {n} {w} (low i) k e g =
+      let p = preserved row v (Event.Select false) w k e in
+      run-in i (p .0) (p .1) (uncounted w (next row (Event.Select false) w) (low-in (k .unsettled) g))
+  run-in {n} (hold b i) k e (twin w l y m on c h) =
+      let p = preserved row v (Event.Hold b) w k e in
+      run-in i (p .0) (p .1) (uncounted w (next row (Event.Hold b) w) (settled-in (twin (pinned (Event.Hold b) w) l y m on c h)))
+  run-in {n} (protect true i) k e (twin w l y m on c h) =
+      let p = preserved row v (Event.Protect true) w k e in
+      run-in i (p .0) (p .1) (uncounted w (next row (Event.Protect true) w) (settled-in (twin (pinned (Event.Protect true) w) l y m on c h)))
+  run-in {n} (protect false i) k e (twin w l y m on c h) =
+      let p = preserved row v (Event.Protect false) w k e in
+      run-in i (p .0) (p .1) (uncounted w (next row (Event.Protect false) w) (settled-in (twin (unheld row (Event.Protect false) w) l y m on c h)))
+  run-in {n} (wait q i) k e (twin w l y m on c h) =
+      let p = preserved row v (Event.Wait q) w k e in
+      run-in i (p .0) (p .1) (uncounted w (next row (Event.Wait q) w) (settled-in (wait-in v w (k .unsettled) (e .latch) l y n m on c h q)))

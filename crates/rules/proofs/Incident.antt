@@ -1,0 +1,108 @@
+-- The theorem `incident`: the incident is an instance of demand 3; and a prepared device is sound, so that demand 3 holds from there.
+use Prim.Native.Nat.{ℕ, zero, suc, _+_, _*_, _≤_}
+use mathlib.Core.Path.{_≡_, refl, sym}
+use mathlib.Core.Bool.{Bool, true, false}
+use mathlib.Core.List.{List, [], _∷_, _++_}
+use native.Mathlib.Nat.{zero-mod}
+use native.Mathlib.Omega.{arith}
+use lib.ListN.{length, length-append, length-replicate}
+use lib.Dec.{lit<}
+use Rattle.rules.specs.World.{Row, Event, World, if_then_else_, bit}
+use Rattle.rules.specs.Device.{Widths, m95128, prepared}
+use Rattle.rules.specs.Instruction.{decode, longer}
+use Rattle.rules.specs.Receive.{rolled, addressAfter, latchAfter, rise}
+use Rattle.rules.specs.Send.{shownAddress, fall}
+use Rattle.rules.specs.Judge.{storable, isProtected, allows, isWhole, isDone, judged}
+use Rattle.rules.specs.Cycle.{written, waited}
+use Rattle.rules.specs.Event.{react, step, next, after}
+use Rattle.rules.specs.Sound.{Sound, Lent}
+use Rattle.rules.specs.Examples.{bitsIn}
+use Rattle.rules.specs.Selections.{Broken, rises, Inside, end, clock, input, Cut, done, keep, drop, enabling, bounced, reading, Incident, heard, heardLeft, contents}
+use Rattle.rules.proofs.Choice.{clash}
+use Rattle.rules.proofs.Widths.{page-below, of-device}
+use Rattle.rules.proofs.Latch.{zeros}
+use Rattle.rules.proofs.Selections.{demand-3}
+
+-- A prepared device is sound.
+pub prepared-sound : {row : Row} → Widths row → Sound row (prepared row)
+unfolding prepared
+prepared-sound {row} v =
+    record {
+      unsettled =
+          record {
+            input = record { few = omega arith; small = lit< tt; counted = omega arith };
+            inside = omega (arith, page-below v);
+            stored = nothing (row .srwd);
+            cycle =
+                record {
+                  only = nothing (row .srwd);
+                  runs = λ e. clash (sym e);
+                  rests = λ _. refl;
+                  aligned = zero-mod (row .page);
+                  inside = omega (arith, page-below v);
+                  first = λ _. refl;
+                };
+            off = λ _. record { held = refl; bits = refl; bytes = refl; z = refl };
+            low = λ e. clash (sym e);
+            saw = λ e. clash (sym e);
+            turned = λ e. clash (sym e);
+            marks = λ i. omega (arith, zeros (row .page * 2) (row .page + i));
+          };
+      holds = λ e. clash (sym e);
+    }
+  where
+    nothing : (b : Bool) → storable (record { cells = row .cells; page = row .page; width = row .width; time = row .time; srwd = b; coded = row .coded }) 0 ≡ 0
+    nothing true = refl
+    nothing false = refl
+
+pub prepared-lent : {row : Row} → Widths row → Lent row (prepared row)
+unfolding prepared
+prepared-lent {row} v =
+    record {
+      cells = length-replicate (row .cells) 0xFF;
+      identification = simp (length-append, length-replicate) (omega (arith, short (row .coded), v .codeFits));
+      latch = rw length-replicate (omega arith);
+    }
+  where
+    short : (b : Bool) → length {A = ℕ} (if b then 0x20 ∷ 0x00 ∷ 0x12 ∷ [] else []) ≤ 3
+    short true = omega arith
+    short false = omega arith
+
+-- Events that are kept one and all.
+keeping : {row : Row} {w : World} {fs ks : List Event} (es : List Event) → Cut row (after row es w) fs ks → Cut row w (es ++ fs) (es ++ ks)
+keeping [] c = c
+keeping (e ∷ es) c = keep e (keeping es c)
+
+inside-bits : {es ks : List Event} (n b : ℕ) → Inside es ks → Inside (bitsIn n b ++ es) (bitsIn n b ++ ks)
+inside-bits zero b i = i
+inside-bits (suc n) b i = input (bit b n) (clock true (clock false (inside-bits n b i)))
+
+-- Before the WRITE the device is deselected and S is high; the WRITE has 33 decoded rises.
+before : World
+before = after m95128 enabling (prepared m95128)
+
+begins : (before .state .selection .selected ≡ false) × (before .state .pins .s ≡ true)
+unfolding before prepared decode longer rolled addressAfter latchAfter rise shownAddress fall isProtected allows isWhole isDone judged written waited react step next
+begins = (refl, refl)
+
+bounces : Broken (rises m95128 bounced (next m95128 (Event.Select false) before) 0)
+unfolding before prepared decode longer rolled addressAfter latchAfter rise shownAddress fall isProtected allows isWhole isDone judged written waited react step next
+bounces e = let z : _≡_ {A = ℕ} 1 0 = e in absurd (omega arith)
+
+pub incident : Incident
+unfolding before
+incident =
+    keeping {row = m95128} {w = prepared m95128} enabling
+    (drop {w = before} {inner = bounced} {kept = bounced} (begins .0) (begins .1)
+    (inside-bits 8 0x02 (inside-bits 8 0x00 (inside-bits 8 0x05 (inside-bits 8 0x66 (inside-bits 1 0 end))))) bounces
+    (keeping {row = m95128} {w = next m95128 (Event.Select true) (after m95128 bounced (next m95128 (Event.Select false) before))} reading done))
+
+-- So nobody can tell the run with the bouncing WRITE from the one without its Chip Select events.
+pub incident-unseen :
+    let w = prepared m95128 in
+    (heard incident ≡ heardLeft incident w)
+    × (contents (after m95128 (enabling ++ Event.Select false ∷ bounced ++ Event.Select true ∷ reading) w) ≡ contents (after m95128 (enabling ++ bounced ++ reading) w))
+incident-unseen =
+    let v = of-device 2 in
+    let r = demand-3 m95128 v (prepared m95128) (prepared-sound v) (prepared-lent v) (enabling ++ Event.Select false ∷ bounced ++ Event.Select true ∷ reading) (enabling ++ bounced ++ reading) incident in
+    (r .0, r .1)

@@ -1,0 +1,16 @@
+-- The theorem `refusals`, by computation.
+use mathlib.Core.Path.{refl}
+use Rattle.rules.specs.Device.{prepared}
+use Rattle.rules.specs.Receive.{rise}
+use Rattle.rules.specs.Send.{fall}
+use Rattle.rules.specs.Judge.{judged}
+use Rattle.rules.specs.Cycle.{waited}
+use Rattle.rules.specs.Event.{react, step}
+use Rattle.rules.specs.Sound.{clauses, isSound}
+use Rattle.rules.specs.Trace.{eventAt, recordRefusal, turn}
+use Rattle.rules.specs.Call.{lentRefusal, worldRefusal, prepareOutcome, eventOutcome, runOutcome, cellPageOutcome, identificationPageOutcome, firstRecord}
+use Rattle.rules.specs.Refusals as spec
+
+pub refusals : spec.Given
+unfolding prepared rise fall judged waited react step clauses isSound eventAt recordRefusal turn lentRefusal worldRefusal prepareOutcome eventOutcome runOutcome cellPageOutcome identificationPageOutcome firstRecord
+refusals = refl
