@@ -9,10 +9,10 @@ use native.Mathlib.Omega.{arith}
 use lib.ListN.{length, getD, length-append, length-take, length-replicate, length-set}
 use lib.Dec.{eqb, lit<}
 use borrow.Author.Tests.{eqb-false}
-use Rattle.rules.specs.World.{Row, Instruction, Input, State, World, if_then_else_, bit, number}
+use Rattle.rules.specs.World.{Source, Row, Instruction, Input, State, World, if_then_else_, bit, number}
 use Rattle.rules.specs.declared.Instruction.the-variants.{Wren, Wrdi, Rdsr, Wrsr, Read, Write, Rdid, Rdls, Wrid, Lid, Unknown}
 use Rattle.rules.specs.Device.{Widths, single}
-use Rattle.rules.specs.Instruction.{Source, silent, fromStatus, fromCells, fromIdentification, fromLock, facts, decode, busy, latches, turnedAway, commandBytes, longer, lockBit}
+use Rattle.rules.specs.Instruction.{facts, decode, busy, latches, turnedAway, commandBytes, longer, lockBit}
 use Rattle.rules.specs.Receive.{isCode, isAddress, isLast, isLatched, commandAfter, addressAfter, cleared, marked, latchAfter, inputAfter}
 use Rattle.rules.specs.Send.{going, sourceOf, shownAddress}
 use Rattle.rules.specs.Sound.{SoundInput}
@@ -47,17 +47,17 @@ module _ {row : Row} (v : Widths row) where
   address-inside b s h =
       let P : ℕ → Type 0 = λ (a : ℕ). a < row .cells in
       let i = decode row b in
-      if-elim P (isCode s) (λ _. omega (arith, number-small (single row && facts i .addressed && not (facts i .inPage) && bit b 3), page-below v, page-positive v))
+      if-elim P (isCode s) (λ _. omega (arith, number-small (single row && facts i .addressed && not (facts i .paged) && bit b 3), page-below v, page-positive v))
       (λ _. if-elim P (isLast row s) (λ _. omega (arith, mod-lt (longer row (s .place .address) b) {m = row .page} (page-positive v), page-below v))
       (λ _. if-elim P (isAddress row s) (λ _. longer-inside v (s .place .address) b)
       (λ _. if-elim P (isLatched row s) (λ _. rolled-inside v (s .place .address) h) (λ _. h))))
 
   onward-inside : (x : Source) (a : ℕ) → a < row .cells → going row x a .after < row .cells
-  onward-inside silent a h = h
-  onward-inside fromStatus a h = h
-  onward-inside fromCells a h = mod-lt (a + 1) (omega (arith, page-below v))
-  onward-inside fromIdentification a h = omega (arith, page-below v)
-  onward-inside fromLock a h = h
+  onward-inside Source.Silent a h = h
+  onward-inside Source.Status a h = h
+  onward-inside Source.Cells a h = mod-lt (a + 1) (omega (arith, page-below v))
+  onward-inside Source.Identification a h = omega (arith, page-below v)
+  onward-inside Source.Lock a h = h
 
   pub shown-inside : (s : State) → s .place .address < row .cells → shownAddress row s < row .cells
   unfolding shownAddress
@@ -67,7 +67,7 @@ module _ {row : Row} (v : Widths row) where
 
 -- The command: what a cycle turns away stays turned away.
 -- What the lock bit makes of an instruction is taken in a cycle exactly if that is, and uses the latch only if that does; what uses the latch is not taken in a cycle.
-pub lock-form : (i : Instruction) → (facts (facts i .lockForm) .taken ≡ facts i .taken) × (latches (facts i .lockForm) ≡ true → latches i ≡ true) × (latches i ≡ true → facts i .taken ≡ false)
+pub lock-form : (i : Instruction) → (facts (facts i .lock) .taken ≡ facts i .taken) × (latches (facts i .lock) ≡ true → latches i ≡ true) × (latches i ≡ true → facts i .taken ≡ false)
 lock-form Wren = (refl, λ e. e, λ _. refl)
 lock-form Wrdi = (refl, λ e. e, λ e. clash (sym e))
 lock-form Rdsr = (refl, λ e. e, λ e. clash (sym e))
@@ -91,7 +91,7 @@ command-turned row b s h run = go (isCode s) refl
     lock : Bool
     lock = isLast row s && lockBit row (longer row (s .place .address) b)
 
-    go : (t : Bool) → isCode s ≡ t → facts (if t then decode row b else (if lock then facts i .lockForm else i)) .taken ≡ false
+    go : (t : Bool) → isCode s ≡ t → facts (if t then decode row b else (if lock then facts i .lock else i)) .taken ≡ false
         → (if t then turnedAway s (decode row b) else s .command .away) ≡ true
     go true e f = and-both (busy s) (not (facts (decode row b) .taken)) run (ap not f)
     go false e f = if-elim (λ (j : Instruction). facts j .taken ≡ false → s .command .away ≡ true) lock

@@ -84,7 +84,7 @@ module _ {row : Row} (v : Widths row) (w : World) (long : length (w .latch) ≡ 
       let before : uses s ≡ true =
       or-map (holdsLatch (s .cycle .kind)) _ (commandUses (s .command))
       (if-elim (λ (j : Instruction). (latches j && not (s .command .away)) ≡ true → commandUses (s .command) ≡ true) (isLast row s && lockBit row (longer row a b))
-      (λ _ t. and-both (latches i) (not (s .command .away)) (lock-form i .1 (and-left (latches (facts i .lockForm)) (not (s .command .away)) t)) (and-right (latches (facts i .lockForm)) (not (s .command .away)) t))
+      (λ _ t. and-both (latches i) (not (s .command .away)) (lock-form i .1 (and-left (latches (facts i .lock)) (not (s .command .away)) t)) (and-right (latches (facts i .lock)) (not (s .command .away)) t))
       (λ _ t. t))
       u in
       if-both (Agree row) (isLatched row s) (λ _. marked-agree row (w .latch) l a b (omega arith) n (mod-lt a (page-positive v)) (h before)) (λ _. h before))

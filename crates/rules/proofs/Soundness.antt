@@ -87,12 +87,12 @@ module _ (left time : ℕ) where
   time-of false f g = eq-eqb left 0 (g refl)
 
 module _ (row : Row) (w : World) where
-  facts-of : isSound row w ≡ true → Sound row w
+  facts-of : isSound row (w .state) (w .latch) ≡ true → Sound row w
   unfolding isSound clauses
   facts-of e =
       let s = w .state in
       let on = s .selection .selected in
-      let h = each (clauses row w) e in
+      let h = each (clauses row (w .state) (w .latch)) e in
       let h₅ = h .1 .1 .1 .1 .1 in
       let h₁₀ = h₅ .1 .1 .1 .1 .1 in
       let h₁₅ = h₁₀ .1 .1 .1 .1 .1 in
@@ -137,14 +137,14 @@ module _ (row : Row) (w : World) where
             (implied on (s .pins .c || Bool·beq (s .selection .held) (not (s .pins .hold))) (h₁₅ .1 .1 .0) o) e);
       }
 
-  test-of : Sound row w → isSound row w ≡ true
+  test-of : Sound row w → isSound row (w .state) (w .latch) ≡ true
   unfolding isSound clauses
   test-of k =
       let s = w .state in
       let on = s .selection .selected in
       let h = k .unsettled in
       let off : (not on ≡ true → on ≡ false) = not-true on in
-      all-of (clauses row w) (
+      all-of (clauses row (w .state) (w .latch)) (
         le-leb (s .input .bits) 7 (h .input .few),
         (
           lt-ltb (s .input .value) (2 ^ s .input .bits) (h .input .small),

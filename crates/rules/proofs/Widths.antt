@@ -11,8 +11,8 @@ use Rattle.rules.specs.Device.{Widths, table, m95040, m95128, m95m01, m9
 use Rattle.rules.specs.Instruction.{longer}
 use Rattle.rules.specs.Receive.{rolled}
 
-made : (row : Row) (k p : ℕ) → row .cells ≡ 2 ^ k → row .page ≡ 2 ^ p → T (leb 3 (row .page)) → T (ltb p k) → T (leb 1 (row .width)) → T (leb (row .width) 3) → T (leb 1 (row .time)) → Widths row
-made row k p c g three pk one few time =
+made : (row : Row) (k p : ℕ) → row .cells ≡ 2 ^ k → row .page ≡ 2 ^ p → T (leb 3 (row .page)) → T (ltb p k) → T (leb k 24) → T (leb 1 (row .width)) → T (leb (row .width) 3) → T (leb 1 (row .time)) → Widths row
+made row k p c g three pk address one few time =
     record {
       cellBits = k;
       pageBits = p;
@@ -20,6 +20,7 @@ made row k p c g three pk one few time =
       page = g;
       codeFits = lit≤ three;
       smaller = lit< pk;
+      narrow = lit≤ address;
       oneByte = lit≤ one;
       threeBytes = lit≤ few;
       lasts = lit≤ time;
@@ -27,11 +28,11 @@ made row k p c g three pk one few time =
 
 -- The table is read by place, so a row more in it is a line more here.
 entry : (i : ℕ) → Widths (getD table i m95040)
-entry zero = made m95040 9 4 refl refl tt tt tt tt tt
-entry (suc zero) = made m95128 14 6 refl refl tt tt tt tt tt
-entry (suc (suc zero)) = made m95m01 17 8 refl refl tt tt tt tt tt
-entry (suc (suc (suc zero))) = made m95m02 18 8 refl refl tt tt tt tt tt
-entry (suc (suc (suc (suc i)))) = made m95040 9 4 refl refl tt tt tt tt tt
+entry zero = made m95040 9 4 refl refl tt tt tt tt tt tt
+entry (suc zero) = made m95128 14 6 refl refl tt tt tt tt tt tt
+entry (suc (suc zero)) = made m95m01 17 8 refl refl tt tt tt tt tt tt
+entry (suc (suc (suc zero))) = made m95m02 18 8 refl refl tt tt tt tt tt tt
+entry (suc (suc (suc (suc i)))) = made m95040 9 4 refl refl tt tt tt tt tt tt
 
 pub of-device : (n : ℕ) → Widths (rowOf n)
 of-device n = entry (n - 1)

@@ -18,7 +18,7 @@ lentRefusal device w =
 unfoldable pub worldRefusal : ℕ → World → ℕ
 worldRefusal device w =
     if not (eqb (lentRefusal device w) 0) then lentRefusal device w
-    else if not (isSound (rowOf device) w) then 5
+    else if not (isSound (rowOf device) (w .state) (w .latch)) then 5
     else 0
 
 -- Preparing fills the lent buffers, and gives the prepared state, refused or not: it is one state for every device.

@@ -36,6 +36,7 @@ pub record Widths (row : Row) : Type 0 where
   pub page : row .page ≡ 2 ^ pageBits
   pub codeFits : 3 ≤ row .page
   pub smaller : pageBits < cellBits
+  pub narrow : cellBits ≤ 24
   pub oneByte : 1 ≤ row .width
   pub threeBytes : row .width ≤ 3
   pub lasts : 1 ≤ row .time

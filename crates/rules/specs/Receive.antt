@@ -10,7 +10,7 @@ abbrev pub isAddress : Row → State → Bool
 isAddress row s = ltb (s .input .bytes) (commandBytes row (s .command .instruction)) && not (s .command .away)
 
 abbrev pub isLast : Row → State → Bool
-isLast row s = eqb (s .input .bytes) (row .width) && facts (s .command .instruction) .inPage && not (s .command .away)
+isLast row s = eqb (s .input .bytes) (row .width) && facts (s .command .instruction) .paged && not (s .command .away)
 
 abbrev pub isLatched : Row → State → Bool
 isLatched row s = ltb (row .width) (s .input .bytes) && latches (s .command .instruction) && not (s .command .away)
@@ -21,7 +21,7 @@ commandAfter row b s =
     record {
       instruction =
           if isCode s then decode row b
-          else if isLast row s && lockBit row (longer row (s .place .address) b) then facts (s .command .instruction) .lockForm
+          else if isLast row s && lockBit row (longer row (s .place .address) b) then facts (s .command .instruction) .lock
           else s .command .instruction;
       away = if isCode s then turnedAway s (decode row b) else s .command .away;
     }

@@ -1,6 +1,6 @@
 -- 01, "Events", C falls, and "Instructions", what is sent: READ, RDID, RDLS, RDSR.
-use Rattle.rules.specs.World.{ℕ, _+_, _-_, _*_, _%_, Bool, true, false, not, _&&_, List, getD, eqb, leb, min, if_then_else_, bit, number, Row, Level, State, World, withSelection, withState}
-use Rattle.rules.specs.Instruction.{Source, silent, fromStatus, fromCells, fromIdentification, fromLock, facts, busy, commandBytes}
+use Rattle.rules.specs.World.{Source, Going, ℕ, _+_, _-_, _*_, _%_, Bool, true, false, not, _&&_, List, getD, eqb, leb, min, if_then_else_, bit, number, Row, Level, State, World, withSelection, withState}
+use Rattle.rules.specs.Instruction.{facts, busy, commandBytes}
 
 -- RDSR's byte: bit 0 WIP, 1 WEL, and the stored bits in their places.
 abbrev pub statusByte : State → ℕ
@@ -8,28 +8,23 @@ statusByte s = s .registers .status + number (s .registers .wel) * 2 + number (b
 
 -- The byte that a source sends at an address.
 abbrev pub byteOf : State → List ℕ → List ℕ → Source → ℕ → ℕ
-byteOf s cells identification silent a = 0
-byteOf s cells identification fromStatus a = statusByte s
-byteOf s cells identification fromCells a = getD cells a 0
-byteOf s cells identification fromIdentification a = getD identification a 0
-byteOf s cells identification fromLock a = number (s .registers .locked)
+byteOf s cells identification Source.Silent a = 0
+byteOf s cells identification Source.Status a = statusByte s
+byteOf s cells identification Source.Cells a = getD cells a 0
+byteOf s cells identification Source.Identification a = getD identification a 0
+byteOf s cells identification Source.Lock a = number (s .registers .locked)
 
 -- How a source goes on: whether it sends at all, the address after an address, and whether an address is past its end.
-pub record Going : Type 0 where
-  pub sends : Bool
-  pub after : ℕ
-  pub past : Bool
-
 abbrev goes : Bool → ℕ → Bool → Going
 goes sends after past = record { sends = sends; after = after; past = past }
 
 -- READ goes on from the last cell to cell 0; RDID stays at the page's length; the status and the lock repeat.
 abbrev pub going : Row → Source → ℕ → Going
-going row silent a = goes false a false
-going row fromStatus a = goes true a false
-going row fromCells a = goes true ((a + 1) % row .cells) false
-going row fromIdentification a = goes true (min (a + 1) (row .page)) (leb (row .page) a)
-going row fromLock a = goes true a false
+going row Source.Silent a = goes false a false
+going row Source.Status a = goes true a false
+going row Source.Cells a = goes true ((a + 1) % row .cells) false
+going row Source.Identification a = goes true (min (a + 1) (row .page)) (leb (row .page) a)
+going row Source.Lock a = goes true a false
 
 abbrev pub sourceOf : State → Source
 sourceOf s = facts (s .command .instruction) .sends

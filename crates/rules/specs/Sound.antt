@@ -1,5 +1,5 @@
 -- 01, "The device's state": the sound states, as a test that runs, and as a record of facts that theorems use.
-use Rattle.rules.specs.World.{ℕ, _+_, _%_, _^_, _≤_, _<_, _≡_, Bool, true, false, not, _&&_, _||_, List, [], _∷_, getD, drop, length, eqb, leb, ltb, if_then_else_, Row, Kind, Level, Event, Selection, Input, Output, World}
+use Rattle.rules.specs.World.{State, ℕ, _+_, _%_, _^_, _≤_, _<_, _≡_, Bool, true, false, not, _&&_, _||_, List, [], _∷_, getD, drop, length, eqb, leb, ltb, if_then_else_, Row, Kind, Level, Event, Selection, Input, Output, World}
 use mathlib.Core.Bool.{Bool·beq}
 use Rattle.rules.specs.Device.{Widths}
 use Rattle.rules.specs.Instruction.{facts, changes, busy}
@@ -26,9 +26,8 @@ areMarks (m ∷ ms) = leb m 1 && areMarks ms
 
 -- 01's list, in its order: the current byte; whole bytes; the address; status and new status; time left; page start; not selected;
 -- S low; W seen low; turned away; held. Then the marks.
-unfoldable pub clauses : Row → World → List Bool
-clauses row w =
-    let s = w .state in
+unfoldable pub clauses : Row → State → List ℕ → List Bool
+clauses row s latch =
     leb (s .input .bits) 7
     ∷ ltb (s .input .value) (2 ^ s .input .bits)
     ∷ leb (s .input .bytes) 6
@@ -47,11 +46,11 @@ clauses row w =
     ∷ (s .selection .selected implies s .pins .w || s .selection .seen)
     ∷ (busy s implies eqb (s .input .bytes) 0 || facts (s .command .instruction) .taken || s .command .away)
     ∷ (s .selection .selected implies s .pins .c || Bool·beq (s .selection .held) (not (s .pins .hold)))
-    ∷ areMarks (drop (row .page) (w .latch))
+    ∷ areMarks (drop (row .page) latch)
     ∷ []
 
-unfoldable pub isSound : Row → World → Bool
-isSound row w = all (clauses row w)
+unfoldable pub isSound : Row → State → List ℕ → Bool
+isSound row s latch = all (clauses row s latch)
 
 -- The same as facts.
 pub record SoundInput (i : Input) : Type 0 where
@@ -97,7 +96,7 @@ pub record Lent (row : Row) (w : World) : Type 0 where
 
 -- The theorem `reads`: the test and the facts say the same. The theorem `preserved`: every event keeps a sound world sound and its lists as long.
 abbrev pub Reads : Type 0
-Reads = (row : Row) (w : World) → (isSound row w ≡ true → Sound row w) × (Sound row w → isSound row w ≡ true)
+Reads = (row : Row) (w : World) → (isSound row (w .state) (w .latch) ≡ true → Sound row w) × (Sound row w → isSound row (w .state) (w .latch) ≡ true)
 
 abbrev pub Preserved : Type 0
 Preserved = (row : Row) → Widths row → (e : Event) (w : World) → Sound row w → Lent row w → Sound row (step row e w) × Lent row (step row e w)

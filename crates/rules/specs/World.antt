@@ -8,6 +8,10 @@ pub use lib.Dec.{eqb, leb, ltb}
 pub use Rattle.rules.specs.declared.Row.{Row}
 pub use Rattle.rules.specs.declared.Instruction.{Instruction}
 pub use Rattle.rules.specs.declared.Kind.{Kind}
+pub use Rattle.rules.specs.declared.Source.{Source}
+pub use Rattle.rules.specs.declared.Facts.{Facts}
+pub use Rattle.rules.specs.declared.Change.{Change}
+pub use Rattle.rules.specs.declared.Going.{Going}
 pub use Rattle.rules.specs.declared.Level.{Level}
 pub use Rattle.rules.specs.declared.Event.{Event}
 pub use Rattle.rules.specs.declared.Pins.{Pins}
@@ -30,6 +34,9 @@ pub record World : Type 0 where
   pub cells : List ℕ
   pub identification : List ℕ
   pub latch : List ℕ
+
+abbrev pub worldOf : State → List ℕ → List ℕ → List ℕ → World
+worldOf s cells identification latch = record { state = s; cells = cells; identification = identification; latch = latch }
 
 -- Bit k of n, and a bit as a number.
 abbrev pub bit : ℕ → ℕ → Bool

@@ -35,6 +35,44 @@ pub enum Kind {
     Lock,
 }
 
+// What an instruction sends: nothing, the status, cells, identification bytes, or the lock.
+pub enum Source {
+    Silent,
+    Status,
+    Cells,
+    Identification,
+    Lock,
+}
+
+// One row of the instruction table: taken in a cycle too; an address follows; only its place in the page counts; what the lock
+// bit makes of it; what it sends; sets WEL; resets WEL; the cycle it starts.
+pub struct Facts {
+    pub taken: bool,
+    pub addressed: bool,
+    pub paged: bool,
+    pub lock: Instruction,
+    pub sends: Source,
+    pub sets: bool,
+    pub resets: bool,
+    pub starts: Kind,
+}
+
+// One row of the table of cycles: whether it runs, and what its end changes.
+pub struct Change {
+    pub runs: bool,
+    pub cells: bool,
+    pub identification: bool,
+    pub status: bool,
+    pub lock: bool,
+}
+
+// How a source goes on from an address: whether it sends at all, the address after, and whether the address is past its end.
+pub struct Going {
+    pub sends: bool,
+    pub after: usize,
+    pub past: bool,
+}
+
 // A level of the output Q.
 pub enum Level {
     Low,
