@@ -3,24 +3,24 @@ use Rattle.rules.specs.World.{Facts, Change, Source, ℕ, _+_, _-_, _*_,
 use Rattle.rules.specs.declared.Instruction.the-variants.{Wren, Wrdi, Rdsr, Wrsr, Read, Write, Rdid, Rdls, Wrid, Lid, Unknown}
 use Rattle.rules.specs.Device.{single}
 
-abbrev fact : Bool → Bool → Bool → Instruction → Source → Bool → Bool → Kind → Facts
-fact taken addressed paged lock sends sets resets starts =
+abbrev pub factsOf : Bool → Bool → Bool → Instruction → Source → Bool → Bool → Kind → Facts
+factsOf taken addressed paged lock sends sets resets starts =
     record { taken = taken; addressed = addressed; paged = paged; lock = lock; sends = sends; sets = sets; resets = resets; starts = starts }
 
 -- The instruction table. Columns: taken in a cycle too; an address follows; only its place in the page counts; what the lock bit
 -- makes of it; what it sends; sets WEL; resets WEL; the cycle it starts.
 abbrev pub facts : Instruction → Facts
-facts Wren = fact false false false Wren Source.Silent true false Kind.None
-facts Wrdi = fact true false false Wrdi Source.Silent false true Kind.None
-facts Rdsr = fact true false false Rdsr Source.Status false false Kind.None
-facts Wrsr = fact false false false Wrsr Source.Silent false false Kind.Status
-facts Read = fact false true false Read Source.Cells false false Kind.None
-facts Write = fact false true false Write Source.Silent false false Kind.Array
-facts Rdid = fact false true true Rdls Source.Identification false false Kind.None
-facts Rdls = fact false true false Rdls Source.Lock false false Kind.None
-facts Wrid = fact false true true Lid Source.Silent false false Kind.Identification
-facts Lid = fact false true false Lid Source.Silent false false Kind.Lock
-facts Unknown = fact false false false Unknown Source.Silent false false Kind.None
+facts Wren = factsOf false false false Wren Source.Silent true false Kind.None
+facts Wrdi = factsOf true false false Wrdi Source.Silent false true Kind.None
+facts Rdsr = factsOf true false false Rdsr Source.Status false false Kind.None
+facts Wrsr = factsOf false false false Wrsr Source.Silent false false Kind.Status
+facts Read = factsOf false true false Read Source.Cells false false Kind.None
+facts Write = factsOf false true false Write Source.Silent false false Kind.Array
+facts Rdid = factsOf false true true Rdls Source.Identification false false Kind.None
+facts Rdls = factsOf false true false Rdls Source.Lock false false Kind.None
+facts Wrid = factsOf false true true Lid Source.Silent false false Kind.Identification
+facts Lid = factsOf false true false Lid Source.Silent false false Kind.Lock
+facts Unknown = factsOf false false false Unknown Source.Silent false false Kind.None
 
 -- The codes, whether each is exact, and what it means. Where the address is one byte, bit 3 does not count in a code that is not exact.
 abbrev pub codes : List (ℕ × Bool × Instruction)
@@ -36,15 +36,15 @@ unfoldable pub decode : Row → ℕ → Instruction
 decode row c = lookUp (single row) c codes
 
 -- A running cycle of each kind: whether it runs, and what its end changes.
-abbrev change : Bool → Bool → Bool → Bool → Bool → Change
-change runs cells identification status lock = record { runs = runs; cells = cells; identification = identification; status = status; lock = lock }
+abbrev pub changeOf : Bool → Bool → Bool → Bool → Bool → Change
+changeOf runs cells identification status lock = record { runs = runs; cells = cells; identification = identification; status = status; lock = lock }
 
 abbrev pub changes : Kind → Change
-changes Kind.None = change false false false false false
-changes Kind.Array = change true true false false false
-changes Kind.Identification = change true false true false false
-changes Kind.Status = change true false false true false
-changes Kind.Lock = change true false false false true
+changes Kind.None = changeOf false false false false false
+changes Kind.Array = changeOf true true false false false
+changes Kind.Identification = changeOf true false true false false
+changes Kind.Status = changeOf true false false true false
+changes Kind.Lock = changeOf true false false false true
 
 abbrev pub busy : State → Bool
 busy s = changes (s .cycle .kind) .runs

@@ -1,0 +1,126 @@
+-- What masks and shifts are as numbers: over the width, or over all bytes by a computed test.
+use Prim.Native.Nat.{ℕ, zero, suc, _+_, _-_, _*_, _/_, _%_, _^_, _≤_, _<_}
+use mathlib.Core.Path.{_≡_, refl, sym, ap, _∙_, subst}
+use mathlib.Core.Bool.{Bool, true, false, not, _&&_, _||_}
+use mathlib.Core.Logic.{⊎-elim}
+use native.Mathlib.Nat.{mod-eq-of-lt, eq-or-lt-of-le, le-of-suc-le-suc, not-suc-le-zero}
+use native.Mathlib.Omega.{arith}
+use lib.Pow.{pow-mono}
+use lib.Bits.{bitAnd, bitOr, and-mask, or-shifted, or-shifted-r}
+use lib.Dec.{T, eqb, eqb→eq}
+use mir.Val.{boolByte}
+use borrow.Author.Tests.{eq-eqb}
+use Rattle.rules.specs.declared.Row.{Row}
+use Rattle.rules.specs.World.{bit, number}
+use Rattle.rules.specs.Device.{Widths}
+use Rattle.rules.specs.Instruction.{longer}
+use Rattle.rules.specs.Receive.{rolled}
+use Rattle.rules.specs.Judge.{storable}
+
+-- Every number below n passes a test.
+abbrev below : ℕ → (ℕ → Bool) → Bool
+below zero p = true
+below (suc n) p = p n && below n p
+
+and-left : (a b : Bool) → T (a && b) → T a
+and-left true b t = tt
+and-left false b t = t
+
+and-right : (a b : Bool) → T (a && b) → T b
+and-right true b t = t
+and-right false b t = absurd t
+
+passes : (n : ℕ) (p : ℕ → Bool) → T (below n p) → (x : ℕ) → x < n → T (p x)
+passes zero p t x h = absurd (not-suc-le-zero h)
+passes (suc n) p t x h =
+    ⊎-elim (λ e. subst (λ (k : ℕ). T (p k)) (sym e) (and-left (p n) (below n p) t))
+    (λ l. passes n p (and-right (p n) (below n p) t) x l)
+    (eq-or-lt-of-le (le-of-suc-le-suc h))
+
+-- A bit at the low end.
+pub low-bit : (v : ℕ) (d : Bool) → v < 128 → bitOr (v * 2 % 256) (boolByte d) ≡ v * 2 + number d
+low-bit v d h = let whole : v * 2 % 256 ≡ v * 2 = mod-eq-of-lt (omega arith) in rw whole (low d)
+  where
+    low : (d : Bool) → bitOr (v * 2) (boolByte d) ≡ v * 2 + number d
+    low true = or-shifted v 1 1 (omega arith)
+    low false = or-shifted v 1 0 (omega arith)
+
+pub at-bit : (x k : ℕ) → eqb (bitAnd (x / 2 ^ k) 1) 1 ≡ bit x k
+at-bit x k = ap (λ (m : ℕ). eqb m 1) (and-mask (x / 2 ^ k) 1)
+
+-- A mask of a power of two less one is a remainder.
+pub within : (k a p : ℕ) → p ≡ 2 ^ k → bitAnd a (p - 1) ≡ a % p
+within k a p h = rw (h, and-mask)
+
+-- An address byte at the low end, within the cells.
+pub address-byte : (row : Row) → Widths row → (a b : ℕ) → a < row .cells → b < 256 → bitAnd (bitOr (a * 256 % 2 ^ 64) b) (row .cells - 1) ≡ longer row a b
+unfolding longer
+address-byte row v a b ha hb =
+    let small : 2 ^ v .cellBits ≤ 2 ^ 24 = pow-mono (v .narrow) in
+    let inside : a < 2 ^ v .cellBits = subst (λ (n : ℕ). a < n) (v .cells) ha in
+    let whole : a * 256 % 2 ^ 64 ≡ a * 256 = mod-eq-of-lt (omega arith) in
+    rw (whole, or-shifted a 8 b) (within (v .cellBits) (a * 256 + b) (row .cells) (v .cells))
+
+-- Bytes put together, the least significant first: one law over the place.
+pub join : (k w n b : ℕ) → n < 2 ^ k → b * 2 ^ k < 2 ^ w → bitOr n (b * 2 ^ k % 2 ^ w) ≡ n + b * 2 ^ k
+join k w n b hn hb = let whole : b * 2 ^ k % 2 ^ w ≡ b * 2 ^ k = mod-eq-of-lt hb in rw (whole, or-shifted-r b k n) (omega arith)
+
+-- Masks of a byte, over all bytes.
+a8-test : ℕ → Bool
+a8-test x = eqb (bitAnd x 0xF7) (x - number (bit x 3) * 8)
+
+pub mask-a8 : (x : ℕ) → x < 256 → bitAnd x 0xF7 ≡ x - number (bit x 3) * 8
+unfolding a8-test
+mask-a8 x h = eqb→eq _ _ (passes 256 a8-test tt x h)
+
+abbrev bitsOf : Bool → ℕ → ℕ
+bitsOf srwd v = number (srwd && bit v 7) * 128 + v / 4 % 4 * 4
+
+stored-test : Bool → ℕ → ℕ → Bool
+stored-test srwd mask x = eqb (bitAnd x mask) (bitsOf srwd x)
+
+mask-8C : (x : ℕ) → x < 256 → bitAnd x 0x8C ≡ bitsOf true x
+unfolding stored-test
+mask-8C x h = eqb→eq _ _ (passes 256 (stored-test true 0x8C) tt x h)
+
+mask-0C : (x : ℕ) → x < 256 → bitAnd x 0x0C ≡ bitsOf false x
+unfolding stored-test
+mask-0C x h = eqb→eq _ _ (passes 256 (stored-test false 0x0C) tt x h)
+
+-- The status byte, over all bytes, both kinds of device and both flags.
+status-test : Bool → Bool → Bool → ℕ → Bool
+status-test srwd wel busy x = not (eqb (bitsOf srwd x) x) || eqb (bitOr (bitOr x (boolByte wel * 2 % 256)) (boolByte busy)) (x + number wel * 2 + number busy)
+
+status-all : (srwd wel busy : Bool) → T (below 256 (status-test srwd wel busy))
+unfolding status-test
+status-all true true true = tt
+status-all true true false = tt
+status-all true false true = tt
+status-all true false false = tt
+status-all false true true = tt
+status-all false true false = tt
+status-all false false true = tt
+status-all false false false = tt
+
+or-else : (a b : Bool) → a ≡ true → T (not a || b) → T b
+or-else true b e t = t
+or-else false b e t = absurd (subst (λ (x : Bool). T (not x)) e tt)
+
+pub or-status : (row : Row) (x : ℕ) (wel busy : Bool) → x < 256 → storable row x ≡ x → bitOr (bitOr x (boolByte wel * 2 % 256)) (boolByte busy) ≡ x + number wel * 2 + number busy
+unfolding status-test
+or-status row x wel busy h e = eqb→eq _ _ (or-else _ _ (eq-eqb _ _ e) (passes 256 (status-test (row .srwd) wel busy) (status-all (row .srwd) wel busy) x h))
+
+-- The two kinds of device, by SRWD.
+pub stored-8C : (row : Row) (x : ℕ) → row .srwd ≡ true → x < 256 → bitAnd x 0x8C ≡ storable row x
+stored-8C row x e h = rw e (mask-8C x h)
+
+pub stored-0C : (row : Row) (x : ℕ) → row .srwd ≡ false → x < 256 → bitAnd x 0x0C ≡ storable row x
+stored-0C row x e h = rw e (mask-0C x h)
+
+-- The cells fit a machine word with room to spare.
+pub cells-fit : {row : Row} → Widths row → row .cells ≤ 2 ^ 24
+cells-fit v = rw (v .cells) (pow-mono (v .narrow))
+
+pub roll-eq : (row : Row) (a p q : ℕ) → p ≡ a % row .page → q ≡ (p + 1) % row .page → a - p + q ≡ rolled row a
+unfolding rolled
+roll-eq row a p q e f = rw (f, e)

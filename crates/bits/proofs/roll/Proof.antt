@@ -1,0 +1,30 @@
+use Prim.Native.Nat.{_+_}
+use native.Mathlib.Nat.{mod-lt, mod-le}
+use Rattle.rules.proofs.Widths.{page-below, page-positive}
+use native.Mathlib.Omega.{arith}
+use Rattle.bits.proofs.Masks.{cells-fit, roll-eq}
+use borrow.Author.Needs.{needs}
+use Rattle.bits.proofs.roll.Statement.{statement}
+use Rattle.bits.proofs.roll.Tie as tie
+
+place-requires : tie.Need-place-requires
+place-requires c κs = search needs
+
+sub-result : tie.Need-sub-result
+sub-result c = omega (arith, c .place .ensures, mod-le (c .before .args .address) (c .before .args .row .page))
+
+add-place : tie.Need-add-place
+add-place c = omega (arith, c .place .ensures, c .before .pre .1, mod-le (c .before .args .address) (c .before .args .row .page), cells-fit (c .before .pre .0))
+
+place-requires-2 : tie.Need-place-requires-2
+place-requires-2 c κs = search needs
+
+add-result : tie.Need-add-result
+add-result c = omega (arith, c .before .place .ensures, c .place2 .ensures, c .before .before .pre .1, cells-fit (c .before .before .pre .0), page-below (c .before .before .pre .0), mod-lt (c .before .place .result + 1) {m = c .before .before .args .row .page} (page-positive (c .before .before .pre .0)))
+
+returns : tie.Need-returns
+returns c = roll-eq (c .before .before .args .row) (c .before .before .args .address) (c .before .place .result) (c .place2 .result) (c .before .place .ensures) (c .place2 .ensures)
+
+pub roll-spec : {M : Type 1} → statement M
+roll-spec =
+    tie.close (tie.spec place-requires sub-result add-place place-requires-2 add-result returns)

@@ -1,0 +1,43 @@
+use lib.ListN.{length, length-set}
+use native.Mathlib.Omega.{arith}
+use Rattle.memory.proofs.Laws.{with-code, without-code, length-fill}
+use borrow.Author.Needs.{needs}
+use Rattle.memory.proofs.prepare_identification.Statement.{statement}
+use Rattle.memory.proofs.prepare_identification.Tie as tie
+
+fill-requires : tie.Need-fill-requires
+fill-requires c κs = search needs
+
+slice-write-page : tie.Need-slice-write-page
+slice-write-page c = omega (arith, c .before .before .before .before .before .before .pre .0 .codeFits, c .before .before .before .before .before .before .pre .1, length-fill (length (c .before .before .before .before .before .before .args .page .now)) (c .before .before .before .fill .ensures))
+
+slice-write-page-2 : tie.Need-slice-write-page-2
+slice-write-page-2 c = simp length-set (omega (arith, c .before .before .before .before .before .before .pre .0 .codeFits, c .before .before .before .before .before .before .pre .1, length-fill (length (c .before .before .before .before .before .before .args .page .now)) (c .before .before .before .fill .ensures)))
+
+slice-write-page-3 : tie.Need-slice-write-page-3
+slice-write-page-3 c = simp length-set (omega (arith, c .before .before .before .before .before .before .pre .0 .codeFits, c .before .before .before .before .before .before .pre .1, length-fill (length (c .before .before .before .before .before .before .args .page .now)) (c .before .before .before .fill .ensures)))
+
+same-length : tie.Need-same-length
+same-length c = search needs
+
+returns : tie.Need-returns
+returns c = rw (c .before .before .before .fill .ensures, c .before .before .before .before .before .before .pre .1) (with-code (c .before .before .before .before .before .before .args .row) (c .before .before .before .before .before .before .args .row .page) (c .if1 .taken) (c .before .before .before .before .before .before .pre .0 .codeFits))
+
+same-length-2 : tie.Need-same-length-2
+same-length-2 c = search needs
+
+returns-2 : tie.Need-returns-2
+returns-2 c = rw (c .before .before .before .fill .ensures, c .before .before .before .before .before .before .pre .1) (without-code (c .before .before .before .before .before .before .args .row) (c .before .before .before .before .before .before .args .row .page) (c .if1 .left))
+
+pub prepare-identification-spec : {M : Type 1} → statement M
+prepare-identification-spec =
+    tie.close
+    (tie.spec
+    fill-requires
+    slice-write-page
+    slice-write-page-2
+    slice-write-page-3
+    same-length
+    returns
+    same-length-2
+    returns-2)

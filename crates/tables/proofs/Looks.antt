@@ -1,0 +1,54 @@
+-- Looking a code up, in one step for each way through the code.
+use Prim.Native.Nat.{ℕ, zero, suc, _-_, _*_, _<_}
+use mathlib.Core.Path.{_≡_, refl, sym, ap, _∙_}
+use mathlib.Core.Bool.{Bool, true, false, _&&_}
+use mathlib.Core.List.{List, [], _∷_}
+use native.Mathlib.Omega.{arith}
+use lib.ListN.{length, getD}
+use lib.Dec.{eqb}
+use borrow.Author.Tests.{eq-eqb, ne-eqb}
+use Rattle.rules.specs.declared.Row.{Row}
+use Rattle.rules.specs.declared.Instruction.{Instruction}
+use Rattle.rules.specs.declared.Instruction.the-variants.{Wren, Wrdi, Rdsr, Wrsr, Read, Write, Rdid, Wrid, Unknown}
+use Rattle.rules.specs.World.{if_then_else_, bit, number}
+use Rattle.rules.specs.Device.{single}
+use Rattle.rules.specs.Instruction.{lookUp, codes, decode}
+
+-- The six codes that are not exact.
+abbrev pub plainly : ℕ → Instruction
+plainly p = if eqb p 0x06 then Wren else if eqb p 0x04 then Wrdi else if eqb p 0x05 then Rdsr else if eqb p 0x01 then Wrsr else if eqb p 0x03 then Read else if eqb p 0x02 then Write else Unknown
+
+look : (one : Bool) (c p : ℕ) → p ≡ (if one then c - number (bit c 3) * 8 else c) → (c ≡ 0x83 → ⊥) → (c ≡ 0x82 → ⊥) → plainly p ≡ lookUp one c codes
+look true c p e a b = rw (e, ne-eqb c 0x83 a, ne-eqb c 0x82 b)
+look false c p e a b = rw (e, ne-eqb c 0x83 a, ne-eqb c 0x82 b)
+
+pub decode-plain : (row : Row) (c p : ℕ) (i : Instruction) → p ≡ (if single row then c - number (bit c 3) * 8 else c) → (c ≡ 0x83 → ⊥) → (c ≡ 0x82 → ⊥) → i ≡ plainly p → i ≡ decode row c
+unfolding decode
+decode-plain row c p i e a b f = f ∙ look (single row) c p e a b
+
+exact : (one : Bool) → (Rdid ≡ lookUp one 0x83 codes) × (Wrid ≡ lookUp one 0x82 codes)
+exact true = (refl, refl)
+exact false = (refl, refl)
+
+pub decode-rdid : (row : Row) (c : ℕ) → c ≡ 0x83 → Rdid ≡ decode row c
+unfolding decode
+decode-rdid row c e = rw e (exact (single row) .0)
+
+pub decode-wrid : (row : Row) (c : ℕ) → c ≡ 0x82 → Wrid ≡ decode row c
+unfolding decode
+decode-wrid row c e = rw e (exact (single row) .1)
+
+pub plain-one : (row : Row) (c p : ℕ) → row .width ≡ 1 → p ≡ c - number (bit c 3) * 8 → p ≡ (if single row then c - number (bit c 3) * 8 else c)
+plain-one row c p e f = f ∙ rw e
+
+pub plain-more : (row : Row) (c : ℕ) → (row .width ≡ 1 → ⊥) → c ≡ (if single row then c - number (bit c 3) * 8 else c)
+plain-more row c e = rw (ne-eqb (row .width) 1 e)
+
+pub plain-none : (p : ℕ) → (p ≡ 0x06 → ⊥) → (p ≡ 0x04 → ⊥) → (p ≡ 0x05 → ⊥) → (p ≡ 0x01 → ⊥) → (p ≡ 0x03 → ⊥) → (p ≡ 0x02 → ⊥) → Unknown ≡ plainly p
+plain-none p a b c d e f = rw (ne-eqb p 0x06 a, ne-eqb p 0x04 b, ne-eqb p 0x05 c, ne-eqb p 0x01 d, ne-eqb p 0x03 e, ne-eqb p 0x02 f)
+
+-- A row of the table does not depend on what is read past its end.
+pub any-default : {A : Type 0} (l : List A) (i : ℕ) (d e : A) → i < length l → getD l i d ≡ getD l i e
+any-default [] i d e h = absurd (omega arith)
+any-default (x ∷ l) zero d e h = refl
+any-default (x ∷ l) (suc i) d e h = any-default l i d e (omega arith)

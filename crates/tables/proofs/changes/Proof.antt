@@ -1,0 +1,70 @@
+use Rattle.rules.specs.Instruction.{changes}
+use mathlib.Core.Path.{_∙_, ap, sym}
+use borrow.Author.Needs.{needs}
+use Rattle.tables.proofs.changes.Statement.{statement}
+use Rattle.tables.proofs.changes.Tie as tie
+
+enum-told : tie.Need-enum-told
+enum-told c = search needs
+
+change-requires : tie.Need-change-requires
+change-requires c κs = search needs
+
+enum-told-2 : tie.Need-enum-told-2
+enum-told-2 c = search needs
+
+change-requires-2 : tie.Need-change-requires-2
+change-requires-2 c κs = search needs
+
+enum-told-3 : tie.Need-enum-told-3
+enum-told-3 c = search needs
+
+change-requires-3 : tie.Need-change-requires-3
+change-requires-3 c κs = search needs
+
+enum-told-4 : tie.Need-enum-told-4
+enum-told-4 c = search needs
+
+change-requires-4 : tie.Need-change-requires-4
+change-requires-4 c κs = search needs
+
+enum-told-5 : tie.Need-enum-told-5
+enum-told-5 c = search needs
+
+change-requires-5 : tie.Need-change-requires-5
+change-requires-5 c κs = search needs
+
+returns : tie.Need-returns
+returns c = c .change .ensures ∙ ap changes (sym (c .before .enum-told .given .1))
+
+returns-2 : tie.Need-returns-2
+returns-2 c = c .change2 .ensures ∙ ap changes (sym (c .before .enum-told2 .given .1))
+
+returns-3 : tie.Need-returns-3
+returns-3 c = c .change3 .ensures ∙ ap changes (sym (c .before .enum-told3 .given .1))
+
+returns-4 : tie.Need-returns-4
+returns-4 c = c .change4 .ensures ∙ ap changes (sym (c .before .enum-told4 .given .1))
+
+returns-5 : tie.Need-returns-5
+returns-5 c = c .change5 .ensures ∙ ap changes (sym (c .before .enum-told5 .given .1))
+
+pub changes-spec : {M : Type 1} → statement M
+changes-spec =
+    tie.close
+    (tie.spec
+    enum-told
+    change-requires
+    enum-told-2
+    change-requires-2
+    enum-told-3
+    change-requires-3
+    enum-told-4
+    change-requires-4
+    enum-told-5
+    change-requires-5
+    returns
+    returns-2
+    returns-3
+    returns-4
+    returns-5)

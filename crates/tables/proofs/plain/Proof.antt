@@ -1,0 +1,16 @@
+use Rattle.tables.proofs.Looks.{plain-one, plain-more}
+use borrow.Author.Needs.{needs}
+use Rattle.tables.proofs.plain.Statement.{statement}
+use Rattle.tables.proofs.plain.Tie as tie
+
+without-a8-requires : tie.Need-without-a8-requires
+without-a8-requires c κs = search needs
+
+returns : tie.Need-returns
+returns c = plain-one (c .before .before .before .args .row) (c .before .before .before .args .code) _ (c .before .if1 .taken) (c .without-a8 .ensures)
+
+returns-2 : tie.Need-returns-2
+returns-2 c = plain-more (c .before .before .args .row) (c .before .before .args .code) (c .if1 .left)
+
+pub plain-spec : {M : Type 1} → statement M
+plain-spec = tie.close (tie.spec without-a8-requires returns returns-2)

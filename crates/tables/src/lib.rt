@@ -1,0 +1,119 @@
+// The tables that every rule reads: devices, codes, instructions, cycles. Each look-up answers the rules' own row.
+
+ghost use mathlib.Core.Path.{_≡_};
+ghost use Prim.Native.Nat.{_-_, _*_};
+ghost use Rattle.rules.specs.World.{if_then_else_, bit, number};
+ghost use Rattle.rules.specs.Device.{isDevice, rowOf, single};
+ghost use Rattle.rules.specs.Instruction.{factsOf, facts, decode, changeOf, changes};
+
+use rules::{Change, Facts, Instruction, Kind, Row, Source};
+
+const ROWS: [Row; 4] = [
+    Row { cells: 512, page: 16, width: 1, time: 5000, srwd: false, coded: false },
+    Row { cells: 16384, page: 64, width: 2, time: 5000, srwd: true, coded: false },
+    Row { cells: 131072, page: 256, width: 3, time: 4000, srwd: true, coded: false },
+    Row { cells: 262144, page: 256, width: 3, time: 5000, srwd: true, coded: true },
+];
+
+// Whether there is a device of this number.
+pub fn is_device(device: u8) -> bool
+    ensures { λ r. ⌜ r ≡ isDevice device ⌝ }
+{
+    (1 <= device) & (device <= 4)
+}
+
+// The row of a device; of a number that is no device's, the first.
+pub fn row_of(device: u8) -> Row
+    ensures { λ r. ⌜ r ≡ rowOf device ⌝ }
+{
+    let n = device as usize;
+    if n == 0 {
+        return ROWS[0];
+    }
+    let at = n - 1;
+    if at < 4 { ROWS[at] } else { ROWS[0] }
+}
+
+// A code as it is looked up: without bit 3 where that is A8.
+pub fn plain(row: Row, code: u8) -> u8
+    ensures { λ r. ⌜ r ≡ (if single row then code - number (bit code 3) * 8 else code) ⌝ }
+{
+    if row.width == 1 { bits::without_a8(code) } else { code }
+}
+
+// The instruction of a code.
+pub fn decode(row: Row, code: u8) -> Instruction
+    ensures { λ r. ⌜ r ≡ decode row code ⌝ }
+{
+    if code == 0x83 {
+        return Instruction::Rdid;
+    }
+    if code == 0x82 {
+        return Instruction::Wrid;
+    }
+    let plain = plain(row, code);
+    match plain {
+        0x06 => Instruction::Wren,
+        0x04 => Instruction::Wrdi,
+        0x05 => Instruction::Rdsr,
+        0x01 => Instruction::Wrsr,
+        0x03 => Instruction::Read,
+        0x02 => Instruction::Write,
+        _ => Instruction::Unknown,
+    }
+}
+
+// A row of the instruction table, by its columns.
+fn row(taken: bool, addressed: bool, paged: bool, lock: Instruction, sends: Source, sets: bool, resets: bool, starts: Kind) -> Facts
+    ensures { λ r. ⌜ r ≡ factsOf taken addressed paged lock sends sets resets starts ⌝ }
+{
+    Facts {
+        taken: taken,
+        addressed: addressed,
+        paged: paged,
+        lock: lock,
+        sends: sends,
+        sets: sets,
+        resets: resets,
+        starts: starts,
+    }
+}
+
+// The instruction table. Columns: taken in a cycle too; an address follows; only its place in the page counts; what the lock bit
+// makes of it; what it sends; sets WEL; resets WEL; the cycle it starts.
+pub fn facts(i: Instruction) -> Facts
+    ensures { λ r. ⌜ r ≡ facts i ⌝ }
+{
+    match i {
+        Instruction::Wren => row(false, false, false, Instruction::Wren, Source::Silent, true, false, Kind::None),
+        Instruction::Wrdi => row(true, false, false, Instruction::Wrdi, Source::Silent, false, true, Kind::None),
+        Instruction::Rdsr => row(true, false, false, Instruction::Rdsr, Source::Status, false, false, Kind::None),
+        Instruction::Wrsr => row(false, false, false, Instruction::Wrsr, Source::Silent, false, false, Kind::Status),
+        Instruction::Read => row(false, true, false, Instruction::Read, Source::Cells, false, false, Kind::None),
+        Instruction::Write => row(false, true, false, Instruction::Write, Source::Silent, false, false, Kind::Array),
+        Instruction::Rdid => row(false, true, true, Instruction::Rdls, Source::Identification, false, false, Kind::None),
+        Instruction::Rdls => row(false, true, false, Instruction::Rdls, Source::Lock, false, false, Kind::None),
+        Instruction::Wrid => row(false, true, true, Instruction::Lid, Source::Silent, false, false, Kind::Identification),
+        Instruction::Lid => row(false, true, false, Instruction::Lid, Source::Silent, false, false, Kind::Lock),
+        Instruction::Unknown => row(false, false, false, Instruction::Unknown, Source::Silent, false, false, Kind::None),
+    }
+}
+
+fn change(runs: bool, cells: bool, identification: bool, status: bool, lock: bool) -> Change
+    ensures { λ r. ⌜ r ≡ changeOf runs cells identification status lock ⌝ }
+{
+    Change { runs: runs, cells: cells, identification: identification, status: status, lock: lock }
+}
+
+// The table of cycles. Columns: it runs; its end changes cells; the identification page; the status; the lock.
+pub fn changes(k: Kind) -> Change
+    ensures { λ r. ⌜ r ≡ changes k ⌝ }
+{
+    match k {
+        Kind::None => change(false, false, false, false, false),
+        Kind::Array => change(true, true, false, false, false),
+        Kind::Identification => change(true, false, true, false, false),
+        Kind::Status => change(true, false, false, true, false),
+        Kind::Lock => change(true, false, false, false, true),
+    }
+}
