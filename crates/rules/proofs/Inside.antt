@@ -10,8 +10,8 @@ use borrow.Author.Tests.{eqb-true, eqb-false}
 use Rattle.rules.specs.World.{Row, Kind, Event, Input, World, if_then_else_, number, withPins, withState, withLatch}
 use Rattle.rules.specs.Device.{Widths}
 use Rattle.rules.specs.Instruction.{facts, changes, busy, holdsLatch, latches, decode, turnedAway}
-use Rattle.rules.specs.Receive.{isCode, isLatched, latchAfter, inputAfter, rise}
-use Rattle.rules.specs.Send.{fall}
+use Rattle.rules.specs.Receive.{isCode, isLatched, latchAfter, inputAfter, risen, risenLatch}
+use Rattle.rules.specs.Send.{fallen}
 use Rattle.rules.specs.Cycle.{waited}
 use Rattle.rules.specs.Event.{pinsAfter, decodes, react, settled, step, next, after}
 use Rattle.rules.specs.Sound.{Unsettled, Sound, Lent}
@@ -36,7 +36,7 @@ pub data In (row : Row) (n : ℕ) : World → World → Type 0 where
 
 -- While a cycle holds the latch, no byte comes to it.
 module _ {row : Row} (w : World) (k : Unsettled row w) (run : busy (w .state) ≡ true) where
-  unchanged : (b : ℕ) → latchAfter row b w ≡ w .latch
+  unchanged : (b : ℕ) → latchAfter row b (w .state) (w .latch) ≡ w .latch
   unfolding latchAfter
   unchanged b =
       let s = w .state in
@@ -64,13 +64,12 @@ counted-more n v i c =
 module _ {row : Row} (v : Widths row) (w : World) (k : Unsettled row w) (long : length (w .latch) ≡ row .page + row .page) (l : List ℕ) (y : Left) (n : ℕ)
     (m : length l ≡ length (w .latch)) (on : w .state .selection .selected ≡ true) (c : Counted n (w .state .input)) (h : holdsLatch (w .state .cycle .kind) ≡ true → Agree row (w .latch) l) where
   rise-in : (d : Bool) → In row (if d && true then suc n else n)
-      (withState (withPins (pinsAfter (Event.Clock true) (w .state .pins)) (rise row d w .state)) (rise row d w)) (pinned (Event.Clock true) (twinOf l y w))
-  unfolding rise
+      (withState (withPins (pinsAfter (Event.Clock true) (w .state .pins)) (risen row d (w .state))) (withLatch (risenLatch row d (w .state) (w .latch)) w)) (pinned (Event.Clock true) (twinOf l y w))
+  unfolding risen risenLatch
   rise-in true =
       let s = w .state in
       let b = s .input .value * 2 + number (s .pins .d) in
-      let x = rise row true w in
-      twin (withState (withPins (pinsAfter (Event.Clock true) (s .pins)) (x .state)) x) l y
+      twin (withState (withPins (pinsAfter (Event.Clock true) (s .pins)) (risen row true s)) (withLatch (risenLatch row true s (w .latch)) w)) l y
       (if-elim (λ (q : List ℕ). length l ≡ length q) (eqb (s .input .bits) 7) (λ _. m ∙ sym (latch-long v b w long)) (λ _. m))
       on
       (counted-more n b (s .input) c)
@@ -78,7 +77,7 @@ module _ {row : Row} (v : Widths row) (w : World) (k : Unsettled row w) (long : 
   rise-in false = twin (pinned (Event.Clock true) w) l y m on c h
 
   fall-in : In row n (unheld row (Event.Clock false) w) (unheld row (Event.Clock false) (twinOf l y w))
-  unfolding react fall
+  unfolding react fallen
   fall-in = twin (unheld row (Event.Clock false) w) l y m on c h
 
   wait-in : (q : ℕ) → In row n (unheld row (Event.Wait q) w) (unheld row (Event.Wait q) (twinOf l y w))
@@ -105,7 +104,7 @@ uncounted {row} {n} {t} w x g =
 module _ {row : Row} (v : Widths row) where
   clock-in : {n : ℕ} {w t : World} (b : Bool) → Unsettled row w → Lent row w → In row n w t
       → In row (if decodes (w .state) && not (w .state .pins .c) && b then suc n else n) (next row (Event.Clock b) w) (next row (Event.Clock b) t)
-  unfolding next step react rise
+  unfolding next step react risen risenLatch
   clock-in {n} true k e (twin w l y m on c h) = settled-in (rise-in v w k (e .latch) l y n m on c h (decodes (w .state) && not (w .state .pins .c)))
   clock-in {n} false k e (twin w l y m on c h) =
       subst (λ (q : ℕ). In row q (next row (Event.Clock false) w) (next row (Event.Clock false) (twinOf l y w)))

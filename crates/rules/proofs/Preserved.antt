@@ -10,8 +10,8 @@ use borrow.Author.Tests.{not-false}
 use Rattle.rules.specs.World.{Row, Kind, Event, Pins, Input, Command, State, World, number, withPins, withState}
 use Rattle.rules.specs.Device.{Widths}
 use Rattle.rules.specs.Instruction.{facts, changes, busy}
-use Rattle.rules.specs.Receive.{rise}
-use Rattle.rules.specs.Send.{isSending, fall}
+use Rattle.rules.specs.Receive.{risen, risenLatch}
+use Rattle.rules.specs.Send.{isSending, fallen}
 use Rattle.rules.specs.Judge.{storable, isDone, judged}
 use Rattle.rules.specs.Cycle.{waited}
 use Rattle.rules.specs.Event.{pinsAfter, deselected, powered, decodes, react, settled, step}
@@ -69,7 +69,7 @@ pins-sound p h low saw =
 -- C rises.
 module _ {row : Row} (v : Widths row) (w : World) (h : Unsettled row w) (l : Lent row w) where
   rise-sound : Unsettled row (unheld row (Event.Clock true) w)
-  unfolding react rise
+  unfolding react risen risenLatch
   rise-sound =
       let s = w .state in
       let b = s .input .value * 2 + number (s .pins .d) in
@@ -92,7 +92,7 @@ module _ {row : Row} (v : Widths row) (w : World) (h : Unsettled row w) (l : Len
       }
 
   rise-lent : Lent row (unheld row (Event.Clock true) w)
-  unfolding react rise
+  unfolding react risen risenLatch
   rise-lent =
       let s = w .state in
       record {
@@ -105,7 +105,7 @@ module _ {row : Row} (v : Widths row) (w : World) (h : Unsettled row w) (l : Len
       }
 
   fall-sound : Unsettled row (unheld row (Event.Clock false) w)
-  unfolding react fall
+  unfolding react fallen
   fall-sound =
       let s = w .state in
       record {
@@ -237,7 +237,7 @@ kept-lent : {row : Row} {w : World} (s : State) → Lent row w → Lent row (wit
 kept-lent s l = record { cells = l .cells; identification = l .identification; latch = l .latch }
 
 unheld-lent : {row : Row} → Widths row → (e : Event) (w : World) → Unsettled row w → Lent row w → Lent row (unheld row e w)
-unfolding react fall
+unfolding react fallen
 unheld-lent v (Event.Clock true) w h l = rise-lent v w h l
 unheld-lent v (Event.Clock false) w h l = kept-lent _ l
 unheld-lent v (Event.Data b) w h l = kept-lent _ l

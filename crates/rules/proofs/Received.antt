@@ -114,14 +114,14 @@ module _ {row : Row} (v : Widths row) (b : ℕ) (w : World) (long : length (w .l
   clears : Bool
   clears = latches (decode row b) && not (turnedAway (w .state) (decode row b))
 
-  pub latch-long : length (latchAfter row b w) ≡ length (w .latch)
+  pub latch-long : length (latchAfter row b (w .state) (w .latch)) ≡ length (w .latch)
   unfolding latchAfter clears
   latch-long =
       let P : List ℕ → Type 0 = λ (m : List ℕ). length m ≡ length (w .latch) in
       if-elim P (isCode (w .state)) (λ _. if-elim P clears (λ _. cleared-long row (w .latch) long) (λ _. refl))
       (λ _. if-elim P (isLatched row (w .state)) (λ _. marked-long row (w .latch) (w .state .place .address) b) (λ _. refl))
 
-  pub latch-marks : ((i : ℕ) → getD (w .latch) (row .page + i) 0 ≤ 1) → (i : ℕ) → getD (latchAfter row b w) (row .page + i) 0 ≤ 1
+  pub latch-marks : ((i : ℕ) → getD (w .latch) (row .page + i) 0 ≤ 1) → (i : ℕ) → getD (latchAfter row b (w .state) (w .latch)) (row .page + i) 0 ≤ 1
   unfolding latchAfter clears
   latch-marks h =
       let P : List ℕ → Type 0 = λ (m : List ℕ). (i : ℕ) → getD m (row .page + i) 0 ≤ 1 in

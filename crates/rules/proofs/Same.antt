@@ -11,8 +11,8 @@ use borrow.Author.Tests.{not-true}
 use Rattle.rules.specs.World.{Row, Instruction, Kind, Level, Event, Command, State, World, if_then_else_, number, withPins, withSelection, withState, withLatch}
 use Rattle.rules.specs.Device.{Widths}
 use Rattle.rules.specs.Instruction.{facts, changes, busy, holdsLatch, latches, decode, turnedAway, longer, lockBit}
-use Rattle.rules.specs.Receive.{isCode, isLast, isLatched, commandAfter, latchAfter, rise}
-use Rattle.rules.specs.Send.{fall}
+use Rattle.rules.specs.Receive.{isCode, isLast, isLatched, commandAfter, latchAfter, risen, risenLatch}
+use Rattle.rules.specs.Send.{fallen}
 use Rattle.rules.specs.Judge.{allows, isWhole, isDone, judged}
 use Rattle.rules.specs.Cycle.{written, waited}
 use Rattle.rules.specs.Event.{pinsAfter, selected, deselected, decodes, answer, refusal, react, settled, step, next}
@@ -52,7 +52,7 @@ pub data Same (row : Row) : World → World → Type 0 where
 
 -- C rises.
 module _ {row : Row} (v : Widths row) (w : World) (long : length (w .latch) ≡ row .page + row .page) (l : List ℕ) (n : length l ≡ length (w .latch)) (b : ℕ) where
-  latch-length : length (latchAfter row b (withLatch l w)) ≡ length (latchAfter row b w)
+  latch-length : length (latchAfter row b (w .state) l) ≡ length (latchAfter row b (w .state) (w .latch))
   unfolding latchAfter
   latch-length =
       let s = w .state in
@@ -63,7 +63,7 @@ module _ {row : Row} (v : Widths row) (w : World) (long : length (w .latch) ≡ 
   -- The code clears both latches, or does not use them.
   code-agree : (uses (w .state) ≡ true → Agree row (w .latch) l) → isCode (w .state) ≡ true
       → (holdsLatch (w .state .cycle .kind) || commandUses (commandAfter row b (w .state))) ≡ true
-      → Agree row (latchAfter row b w) (latchAfter row b (withLatch l w))
+      → Agree row (latchAfter row b (w .state) (w .latch)) (latchAfter row b (w .state) l)
   unfolding latchAfter
   code-agree h e =
       let s = w .state in
@@ -73,7 +73,7 @@ module _ {row : Row} (v : Widths row) (w : World) (long : length (w .latch) ≡ 
   -- A later byte is marked in both, or is not latched; and the lock bit makes no command that uses the latch.
   byte-agree : (uses (w .state) ≡ true → Agree row (w .latch) l) → isCode (w .state) ≡ false
       → (holdsLatch (w .state .cycle .kind) || commandUses (commandAfter row b (w .state))) ≡ true
-      → Agree row (latchAfter row b w) (latchAfter row b (withLatch l w))
+      → Agree row (latchAfter row b (w .state) (w .latch)) (latchAfter row b (w .state) l)
   unfolding latchAfter
   byte-agree h e =
       let s = w .state in
@@ -91,22 +91,22 @@ module _ {row : Row} (v : Widths row) (w : World) (long : length (w .latch) ≡ 
 
   latch-agree : (uses (w .state) ≡ true → Agree row (w .latch) l)
       → (holdsLatch (w .state .cycle .kind) || commandUses (commandAfter row b (w .state))) ≡ true
-      → Agree row (latchAfter row b w) (latchAfter row b (withLatch l w))
+      → Agree row (latchAfter row b (w .state) (w .latch)) (latchAfter row b (w .state) l)
   latch-agree h = go (isCode (w .state)) refl
     where
       go : (t : Bool) → isCode (w .state) ≡ t → (holdsLatch (w .state .cycle .kind) || commandUses (commandAfter row b (w .state))) ≡ true
-          → Agree row (latchAfter row b w) (latchAfter row b (withLatch l w))
+          → Agree row (latchAfter row b (w .state) (w .latch)) (latchAfter row b (w .state) l)
       go true e = code-agree h e
       go false e = byte-agree h e
 
 -- Each event, but for the hold rule.
 rise-same : {row : Row} {w t : World} → Widths row → Lent row w → Same row w t → Same row (unheld row (Event.Clock true) w) (unheld row (Event.Clock true) t)
-unfolding react rise
+unfolding react risen risenLatch
 rise-same {row} v k (same w l n h) =
     let s = w .state in
     let b = s .input .value * 2 + number (s .pins .d) in
     let whole = decodes s && not (s .pins .c) && eqb (s .input .bits) 7 in
-    same (unheld row (Event.Clock true) w) (if whole then latchAfter row b (withLatch l w) else l)
+    same (unheld row (Event.Clock true) w) (if whole then latchAfter row b (w .state) l else l)
     (if-both (λ (x y : List ℕ). length y ≡ length x) whole (λ _. latch-length v w (k .latch) l n b) (λ _. n))
     (go whole)
   where
@@ -117,13 +117,13 @@ rise-same {row} v k (same w l n h) =
     b′ = s′ .input .value * 2 + number (s′ .pins .d)
 
     go : (t : Bool) → (holdsLatch (s′ .cycle .kind) || commandUses (if t then commandAfter row b′ s′ else s′ .command)) ≡ true
-        → Agree row (if t then latchAfter row b′ w else w .latch) (if t then latchAfter row b′ (withLatch l w) else l)
+        → Agree row (if t then latchAfter row b′ (w .state) (w .latch) else w .latch) (if t then latchAfter row b′ (w .state) l else l)
     go true u = latch-agree v w (k .latch) l n b′ h u
     go false u = h u
 rise-same v k (off w l x y n h) = off (pinned (Event.Clock true) w) l x y n h
 
 fall-same : {row : Row} {w t : World} → Same row w t → Same row (unheld row (Event.Clock false) w) (unheld row (Event.Clock false) t)
-unfolding react fall
+unfolding react fallen
 fall-same {row} (same w l n h) = same (unheld row (Event.Clock false) w) l n h
 fall-same (off w l x y n h) = off (pinned (Event.Clock false) w) l x y n h
 

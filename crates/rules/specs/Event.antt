@@ -1,8 +1,8 @@
 -- 01, "Events": each event, the hold rule after it, and what Q answers.
-use Rattle.rules.specs.World.{ℕ, Bool, true, false, not, _&&_, _||_, List, [], _∷_, eqb, if_then_else_, Row, Instruction, Level, Event, Pins, State, World, withPins, withSelection, withStored, withState}
+use Rattle.rules.specs.World.{ℕ, Bool, true, false, not, _&&_, _||_, List, [], _∷_, eqb, if_then_else_, Row, Instruction, Level, Event, Pins, State, World, withPins, withSelection, withStored, withState, withLatch}
 use Rattle.rules.specs.Instruction.{busy}
-use Rattle.rules.specs.Receive.{rise}
-use Rattle.rules.specs.Send.{fall}
+use Rattle.rules.specs.Receive.{risen, risenLatch}
+use Rattle.rules.specs.Send.{fallen}
 use Rattle.rules.specs.Judge.{judged}
 use Rattle.rules.specs.Cycle.{waited}
 
@@ -46,8 +46,10 @@ decodes s = s .selection .selected && not (s .selection .held)
 
 -- What an event does besides setting its pin. Setting the level that a pin has is no edge.
 unfoldable pub react : Row → Event → World → World
-react row (Event.Clock true) w = rise row (decodes (w .state) && not (w .state .pins .c)) w
-react row (Event.Clock false) w = fall row (decodes (w .state) && w .state .pins .c) w
+react row (Event.Clock true) w =
+    let decoded = decodes (w .state) && not (w .state .pins .c) in
+    withLatch (risenLatch row decoded (w .state) (w .latch)) (withState (risen row decoded (w .state)) w)
+react row (Event.Clock false) w = withState (fallen row (decodes (w .state) && w .state .pins .c) (w .state) (w .cells) (w .identification)) w
 react row (Event.Data b) w = w
 react row (Event.Select true) w = withState (if w .state .selection .selected && not (w .state .pins .s) then deselected (judged row (w .state)) else w .state) w
 react row (Event.Select false) w = withState (if w .state .pins .s then selected (w .state) else w .state) w

@@ -1,5 +1,5 @@
 -- 01, "Events", C rises: what a decoded rise takes in, and what a whole byte does.
-use Rattle.rules.specs.World.{ℕ, _+_, _-_, _*_, _%_, Bool, not, _&&_, List, _++_, set, take, replicate, eqb, ltb, min, if_then_else_, number, Row, Input, Command, State, World, withSelection, withLatch, withState}
+use Rattle.rules.specs.World.{ℕ, _+_, _-_, _*_, _%_, Bool, not, _&&_, List, _++_, set, take, replicate, eqb, ltb, min, if_then_else_, number, Row, Input, Command, State, withSelection}
 use Rattle.rules.specs.Instruction.{facts, decode, latches, turnedAway, commandBytes, startAddress, longer, lockBit}
 
 -- A byte is the code, or the last or another byte of the address, or data. A command that was turned away has neither address nor data.
@@ -45,12 +45,14 @@ cleared row l = take (row .page) l ++ replicate (row .page) 0
 abbrev pub marked : Row → ℕ → ℕ → List ℕ → List ℕ
 marked row a b l = set (set l (a % row .page) b) (row .page + a % row .page) 1
 
-unfoldable pub latchAfter : Row → ℕ → World → List ℕ
-latchAfter row b w =
-    let s = w .state in
-    if isCode s then (if latches (decode row b) && not (turnedAway s (decode row b)) then cleared row (w .latch) else w .latch)
-    else if isLatched row s then marked row (s .place .address) b (w .latch)
-    else w .latch
+abbrev pub clears : Row → ℕ → State → Bool
+clears row b s = latches (decode row b) && not (turnedAway s (decode row b))
+
+unfoldable pub latchAfter : Row → ℕ → State → List ℕ → List ℕ
+latchAfter row b s latch =
+    if isCode s then (if clears row b s then cleared row latch else latch)
+    else if isLatched row s then marked row (s .place .address) b latch
+    else latch
 
 -- One more bit; the eighth makes a whole byte. Whole bytes stop counting at 6.
 abbrev pub inputAfter : ℕ → Input → Input
@@ -58,14 +60,18 @@ inputAfter v i =
     if eqb (i .bits) 7 then record { bits = 0; value = 0; bytes = min (i .bytes + 1) 6; last = v }
     else record { bits = i .bits + 1; value = v; bytes = i .bytes; last = i .last }
 
--- C has risen. Where the rise is decoded D is taken, the most significant bit first.
-unfoldable pub rise : Row → Bool → World → World
-rise row decoded w =
-    let s = w .state in
-    let v = s .input .value * 2 + number (s .pins .d) in
-    let whole = decoded && eqb (s .input .bits) 7 in
-    withLatch (if whole then latchAfter row v w else w .latch)
-    (withState
-    (withSelection (if whole then addressAfter row v s else s .place .address) (s .selection) (if decoded then inputAfter v (s .input) else s .input)
-    (if whole then commandAfter row v s else s .command) (s .output) s)
-    w)
+-- C has risen. Where the rise is decoded D is taken, the most significant bit first; the eighth bit completes a byte.
+abbrev pub value : State → ℕ
+value s = s .input .value * 2 + number (s .pins .d)
+
+abbrev pub isByte : Bool → State → Bool
+isByte decoded s = decoded && eqb (s .input .bits) 7
+
+unfoldable pub risen : Row → Bool → State → State
+risen row decoded s =
+    withSelection (if isByte decoded s then addressAfter row (value s) s else s .place .address) (s .selection)
+    (if decoded then inputAfter (value s) (s .input) else s .input) (if isByte decoded s then commandAfter row (value s) s else s .command)
+    (s .output) s
+
+unfoldable pub risenLatch : Row → Bool → State → List ℕ → List ℕ
+risenLatch row decoded s latch = if isByte decoded s then latchAfter row (value s) s latch else latch

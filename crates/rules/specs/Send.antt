@@ -1,5 +1,5 @@
 -- 01, "Events", C falls, and "Instructions", what is sent: READ, RDID, RDLS, RDSR.
-use Rattle.rules.specs.World.{Source, Going, ℕ, _+_, _-_, _*_, _%_, Bool, true, false, not, _&&_, List, getD, eqb, leb, min, if_then_else_, bit, number, Row, Level, State, World, withSelection, withState}
+use Rattle.rules.specs.World.{Source, Going, ℕ, _+_, _-_, _*_, _%_, Bool, true, false, not, _&&_, List, getD, eqb, leb, min, if_then_else_, bit, number, Row, Level, State, withSelection}
 use Rattle.rules.specs.Instruction.{facts, busy, commandBytes}
 
 -- RDSR's byte: bit 0 WIP, 1 WEL, and the stored bits in their places.
@@ -45,15 +45,12 @@ shownAddress row s =
     else s .place .address
 
 -- C has fallen. Where the fall is decoded and the command is sending, Q moves to the next output bit; a top bit takes the byte.
-unfoldable pub fall : Row → Bool → World → World
-fall row decoded w =
-    let s = w .state in
+unfoldable pub fallen : Row → Bool → State → List ℕ → List ℕ → State
+fallen row decoded s cells identification =
     let shows = decoded && isSending row s in
     let a = shownAddress row s in
     let past = going row (sourceOf s) a .past in
-    let b = if eqb (s .input .bits) 0 && not past then byteOf s (w .cells) (w .identification) (sourceOf s) a else s .output .sending in
+    let b = if eqb (s .input .bits) 0 && not past then byteOf s cells identification (sourceOf s) a else s .output .sending in
     let q = if past then Level.Z else level (bit b (7 - s .input .bits)) in
-    withState
-    (withSelection (if shows then a else s .place .address) (s .selection) (s .input) (s .command)
-    (if shows then record { sending = b; q = q } else s .output) s)
-    w
+    withSelection (if shows then a else s .place .address) (s .selection) (s .input) (s .command)
+    (if shows then record { sending = b; q = q } else s .output) s
