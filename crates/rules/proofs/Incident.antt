@@ -11,7 +11,7 @@ use Rattle.rules.specs.World.{Row, Event, World, if_then_else_, bit}
 use Rattle.rules.specs.Device.{Widths, m95128, prepared}
 use Rattle.rules.specs.Instruction.{decode, longer}
 use Rattle.rules.specs.Receive.{rolled, addressAfter, latchAfter, risen, risenLatch}
-use Rattle.rules.specs.Send.{shownAddress, fallen}
+use Rattle.rules.specs.Send.{shownAddress, outputAfter, fallen}
 use Rattle.rules.specs.Judge.{storable, isProtected, allows, isWhole, isDone, judged}
 use Rattle.rules.specs.Cycle.{written, waited}
 use Rattle.rules.specs.Event.{react, step, next, after}
@@ -82,11 +82,11 @@ before : World
 before = after m95128 enabling (prepared m95128)
 
 begins : (before .state .selection .selected ≡ false) × (before .state .pins .s ≡ true)
-unfolding before prepared decode longer rolled addressAfter latchAfter risen risenLatch shownAddress fallen isProtected allows isWhole isDone judged written waited react step next
+unfolding before prepared decode longer rolled addressAfter latchAfter risen risenLatch shownAddress outputAfter fallen isProtected allows isWhole isDone judged written waited react step next
 begins = (refl, refl)
 
 bounces : Broken (rises m95128 bounced (next m95128 (Event.Select false) before) 0)
-unfolding before prepared decode longer rolled addressAfter latchAfter risen risenLatch shownAddress fallen isProtected allows isWhole isDone judged written waited react step next
+unfolding before prepared decode longer rolled addressAfter latchAfter risen risenLatch shownAddress outputAfter fallen isProtected allows isWhole isDone judged written waited react step next
 bounces e = let z : _≡_ {A = ℕ} 1 0 = e in absurd (omega arith)
 
 pub incident : Incident

@@ -1,5 +1,5 @@
 -- 01, "Events", C falls, and "Instructions", what is sent: READ, RDID, RDLS, RDSR.
-use Rattle.rules.specs.World.{Source, Going, ℕ, _+_, _-_, _*_, _%_, Bool, true, false, not, _&&_, List, getD, eqb, leb, min, if_then_else_, bit, number, Row, Level, State, withSelection}
+use Rattle.rules.specs.World.{Output, Source, Going, ℕ, _+_, _-_, _*_, _%_, Bool, true, false, not, _&&_, List, getD, eqb, leb, min, if_then_else_, bit, number, Row, Level, State, withSelection}
 use Rattle.rules.specs.Instruction.{facts, busy, commandBytes}
 
 -- RDSR's byte: bit 0 WIP, 1 WEL, and the stored bits in their places.
@@ -44,13 +44,21 @@ shownAddress row s =
     if eqb (s .input .bits) 0 && not (eqb (s .input .bytes) (commandBytes row (s .command .instruction))) then going row (sourceOf s) (s .place .address) .after
     else s .place .address
 
--- C has fallen. Where the fall is decoded and the command is sending, Q moves to the next output bit; a top bit takes the byte.
+-- A byte with the bit of it that comes after so many, as what is sent and Q.
+abbrev pub outputOf : ℕ → ℕ → Output
+outputOf b bits = record { sending = b; q = level (bit b (7 - bits)) }
+
+-- The output at such a fall: a top bit takes the byte; past the end Q is Z and none is taken.
+unfoldable pub outputAfter : Row → State → List ℕ → List ℕ → ℕ → Output
+outputAfter row s cells identification a =
+    if going row (sourceOf s) a .past then record { sending = s .output .sending; q = Level.Z }
+    else if eqb (s .input .bits) 0 then outputOf (byteOf s cells identification (sourceOf s) a) 0
+    else outputOf (s .output .sending) (s .input .bits)
+
+-- C has fallen. Where the fall is decoded and the command is sending, Q moves to the next output bit.
 unfoldable pub fallen : Row → Bool → State → List ℕ → List ℕ → State
 fallen row decoded s cells identification =
     let shows = decoded && isSending row s in
     let a = shownAddress row s in
-    let past = going row (sourceOf s) a .past in
-    let b = if eqb (s .input .bits) 0 && not past then byteOf s cells identification (sourceOf s) a else s .output .sending in
-    let q = if past then Level.Z else level (bit b (7 - s .input .bits)) in
     withSelection (if shows then a else s .place .address) (s .selection) (s .input) (s .command)
-    (if shows then record { sending = b; q = q } else s .output) s
+    (if shows then outputAfter row s cells identification a else s .output) s
