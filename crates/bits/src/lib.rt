@@ -8,7 +8,6 @@ ghost use Rattle.rules.specs.Device.{Widths};
 ghost use Rattle.rules.specs.Instruction.{longer};
 ghost use Rattle.rules.specs.Receive.{rolled};
 ghost use Rattle.rules.specs.Judge.{storable};
-
 use rules::Row;
 
 // A byte so far with one bit more at its low end.
@@ -79,11 +78,7 @@ pub fn cell_after(row: Row, address: usize) -> usize
 pub fn stored(row: Row, byte: u8) -> u8
     ensures { λ r. ⌜ r ≡ storable row byte ⌝ }
 {
-    if row.srwd {
-        byte & 0x8C
-    } else {
-        byte & 0x0C
-    }
+    if row.srwd { byte & 0x8C } else { byte & 0x0C }
 }
 
 // The byte that RDSR sends, of stored bits, WEL and WIP.

@@ -8,7 +8,6 @@ ghost use Rattle.rules.specs.Device.{Widths, code};
 ghost use Rattle.rules.specs.Receive.{cleared};
 ghost use Rattle.rules.specs.Cycle.{written};
 ghost use Rattle.rules.specs.Sound.{areMarks};
-
 use rules::Row;
 
 // Every byte takes the value.

@@ -12,7 +12,7 @@ use Rattle.rules.specs.Device.{Widths}
 use Rattle.rules.specs.Instruction.{facts, changes, busy, holdsLatch, latches, decode, turnedAway}
 use Rattle.rules.specs.Receive.{isCode, isLatched, latchAfter, inputAfter, risen, risenLatch}
 use Rattle.rules.specs.Send.{fallen}
-use Rattle.rules.specs.Cycle.{waited}
+use Rattle.rules.specs.Cycle.{waitedState, waited}
 use Rattle.rules.specs.Event.{pinsAfter, decodes, react, settled, step, next, after}
 use Rattle.rules.specs.Sound.{Unsettled, Sound, Lent}
 use Rattle.rules.specs.Selections.{rises, Inside, end, clock, input, low, hold, protect, wait}
@@ -81,7 +81,7 @@ module _ {row : Row} (v : Widths row) (w : World) (k : Unsettled row w) (long : 
   fall-in = twin (unheld row (Event.Clock false) w) l y m on c h
 
   wait-in : (q : ℕ) → In row n (unheld row (Event.Wait q) w) (unheld row (Event.Wait q) (twinOf l y w))
-  unfolding react waited
+  unfolding react waitedState waited
   wait-in q =
       let x = unheld row (Event.Wait q) w in
       let e = waited-bytes row w l q h in

@@ -13,7 +13,7 @@ use Rattle.rules.specs.Instruction.{facts, changes, busy}
 use Rattle.rules.specs.Receive.{risen, risenLatch}
 use Rattle.rules.specs.Send.{isSending, fallen}
 use Rattle.rules.specs.Judge.{storable, isDone, judged}
-use Rattle.rules.specs.Cycle.{waited}
+use Rattle.rules.specs.Cycle.{waitedState, waited}
 use Rattle.rules.specs.Event.{pinsAfter, deselected, powered, decodes, react, settled, step}
 use Rattle.rules.specs.Sound.{SoundInput, SoundCycle, Unsettled, Sound, Lent, Preserved}
 use Rattle.rules.proofs.Choice.{if-elim, if-within, clash, and-right, and-rest, or-left}
@@ -195,7 +195,7 @@ module _ (row : Row) (w : World) (n : ℕ) where
   ends = busy (w .state) && leb (w .state .place .left) n
 
   wait-sound : Unsettled row w → Unsettled row (unheld row (Event.Wait n) w)
-  unfolding react waited ends
+  unfolding react waitedState waited ends
   wait-sound h =
       let s = w .state in
       record {
@@ -212,7 +212,7 @@ module _ (row : Row) (w : World) (n : ℕ) where
       }
 
   wait-lent : Lent row w → Lent row (unheld row (Event.Wait n) w)
-  unfolding react waited ends
+  unfolding react waitedState waited ends
   wait-lent l =
       let s = w .state in
       record {

@@ -4,7 +4,7 @@ use Rattle.rules.specs.Device.{prepared}
 use Rattle.rules.specs.Receive.{risen, risenLatch}
 use Rattle.rules.specs.Send.{outputAfter, fallen}
 use Rattle.rules.specs.Judge.{judged}
-use Rattle.rules.specs.Cycle.{waited}
+use Rattle.rules.specs.Cycle.{waitedState, waited}
 use Rattle.rules.specs.Event.{react, step}
 use Rattle.rules.specs.Sound.{clauses, isSound}
 use Rattle.rules.specs.Trace.{eventAt, recordRefusal, turn}
@@ -12,5 +12,5 @@ use Rattle.rules.specs.Call.{lentRefusal, worldRefusal, prepareOutcome, 
 use Rattle.rules.specs.Refusals as spec
 
 pub refusals : spec.Given
-unfolding prepared risen risenLatch fallen judged waited react step clauses isSound eventAt recordRefusal turn lentRefusal worldRefusal prepareOutcome eventOutcome runOutcome cellPageOutcome identificationPageOutcome firstRecord
+unfolding prepared risen risenLatch fallen judged waitedState waited react step clauses isSound eventAt recordRefusal turn lentRefusal worldRefusal prepareOutcome eventOutcome runOutcome cellPageOutcome identificationPageOutcome firstRecord
 refusals = refl

@@ -14,7 +14,7 @@ use Rattle.rules.specs.Instruction.{facts, changes, busy, holdsLatch, la
 use Rattle.rules.specs.Receive.{isCode, isLast, isLatched, commandAfter, latchAfter, risen, risenLatch}
 use Rattle.rules.specs.Send.{fallen}
 use Rattle.rules.specs.Judge.{allows, isWhole, isDone, judged}
-use Rattle.rules.specs.Cycle.{written, waited}
+use Rattle.rules.specs.Cycle.{written, waitedState, waited}
 use Rattle.rules.specs.Event.{pinsAfter, selected, deselected, decodes, answer, refusal, react, settled, step, next}
 use Rattle.rules.specs.Sound.{Lent}
 use Rattle.rules.specs.Selections.{contents, visible}
@@ -164,7 +164,7 @@ select-same {row} false (off w l x y n h) =
 
 -- Time passes. A cycle that still holds the latch held it before.
 pub waited-holds : (row : Row) (w : World) (n : ℕ) → holdsLatch (unheld row (Event.Wait n) w .state .cycle .kind) ≡ true → holdsLatch (w .state .cycle .kind) ≡ true
-unfolding react waited
+unfolding react waitedState waited
 waited-holds row w n =
     let s = w .state in
     if-elim (λ (k : Kind). holdsLatch k ≡ true → holdsLatch (s .cycle .kind) ≡ true) (busy s && leb (s .place .left) n) (λ _ e. clash (sym e)) (λ _ e. e)
@@ -181,7 +181,7 @@ module _ (row : Row) (w : World) (l : List ℕ) (n : ℕ) (h : holdsLatch (w .st
   -- The same stored bytes come of it.
   pub waited-bytes : (unheld row (Event.Wait n) w .cells ≡ unheld row (Event.Wait n) (withLatch l w) .cells)
       × (unheld row (Event.Wait n) w .identification ≡ unheld row (Event.Wait n) (withLatch l w) .identification)
-  unfolding react waited ended
+  unfolding react waitedState waited ended
   waited-bytes =
       let k = changes (w .state .cycle .kind) in (
         written-same (k .cells) (w .state .place .start) (w .cells) (λ e. or-left (k .cells) (k .identification) e),
@@ -189,7 +189,7 @@ module _ (row : Row) (w : World) (l : List ℕ) (n : ℕ) (h : holdsLatch (w .st
       )
 
 wait-same : {row : Row} {w t : World} (n : ℕ) → Same row w t → Same row (unheld row (Event.Wait n) w) (unheld row (Event.Wait n) t)
-unfolding react waited
+unfolding react waitedState waited
 wait-same {row} n (same w l m h) =
     let s = w .state in
     let x = unheld row (Event.Wait n) w in

@@ -5,14 +5,46 @@ ghost use Prim.Native.Nat.{_-_, _*_};
 ghost use Rattle.rules.specs.World.{if_then_else_, bit, number};
 ghost use Rattle.rules.specs.Device.{isDevice, rowOf, single};
 ghost use Rattle.rules.specs.Instruction.{factsOf, facts, decode, changeOf, changes};
-
-use rules::{Change, Facts, Instruction, Kind, Row, Source};
+use rules::Change;
+use rules::Facts;
+use rules::Instruction;
+use rules::Kind;
+use rules::Row;
+use rules::Source;
 
 const ROWS: [Row; 4] = [
-    Row { cells: 512, page: 16, width: 1, time: 5000, srwd: false, coded: false },
-    Row { cells: 16384, page: 64, width: 2, time: 5000, srwd: true, coded: false },
-    Row { cells: 131072, page: 256, width: 3, time: 4000, srwd: true, coded: false },
-    Row { cells: 262144, page: 256, width: 3, time: 5000, srwd: true, coded: true },
+    Row {
+        cells: 512,
+        page: 16,
+        width: 1,
+        time: 5000,
+        srwd: false,
+        coded: false,
+    },
+    Row {
+        cells: 16384,
+        page: 64,
+        width: 2,
+        time: 5000,
+        srwd: true,
+        coded: false,
+    },
+    Row {
+        cells: 131072,
+        page: 256,
+        width: 3,
+        time: 4000,
+        srwd: true,
+        coded: false,
+    },
+    Row {
+        cells: 262144,
+        page: 256,
+        width: 3,
+        time: 5000,
+        srwd: true,
+        coded: true,
+    },
 ];
 
 // Whether there is a device of this number.
@@ -38,7 +70,11 @@ pub fn row_of(device: u8) -> Row
 pub fn plain(row: Row, code: u8) -> u8
     ensures { λ r. ⌜ r ≡ (if single row then code - number (bit code 3) * 8 else code) ⌝ }
 {
-    if row.width == 1 { bits::without_a8(code) } else { code }
+    if row.width == 1 {
+        bits::without_a8(code)
+    } else {
+        code
+    }
 }
 
 // The instruction of a code.
@@ -64,7 +100,16 @@ pub fn decode(row: Row, code: u8) -> Instruction
 }
 
 // A row of the instruction table, by its columns.
-fn row(taken: bool, addressed: bool, paged: bool, lock: Instruction, sends: Source, sets: bool, resets: bool, starts: Kind) -> Facts
+fn row(
+    taken: bool,
+    addressed: bool,
+    paged: bool,
+    lock: Instruction,
+    sends: Source,
+    sets: bool,
+    resets: bool,
+    starts: Kind,
+) -> Facts
     ensures { λ r. ⌜ r ≡ factsOf taken addressed paged lock sends sets resets starts ⌝ }
 {
     Facts {
@@ -85,24 +130,129 @@ pub fn facts(i: Instruction) -> Facts
     ensures { λ r. ⌜ r ≡ facts i ⌝ }
 {
     match i {
-        Instruction::Wren => row(false, false, false, Instruction::Wren, Source::Silent, true, false, Kind::None),
-        Instruction::Wrdi => row(true, false, false, Instruction::Wrdi, Source::Silent, false, true, Kind::None),
-        Instruction::Rdsr => row(true, false, false, Instruction::Rdsr, Source::Status, false, false, Kind::None),
-        Instruction::Wrsr => row(false, false, false, Instruction::Wrsr, Source::Silent, false, false, Kind::Status),
-        Instruction::Read => row(false, true, false, Instruction::Read, Source::Cells, false, false, Kind::None),
-        Instruction::Write => row(false, true, false, Instruction::Write, Source::Silent, false, false, Kind::Array),
-        Instruction::Rdid => row(false, true, true, Instruction::Rdls, Source::Identification, false, false, Kind::None),
-        Instruction::Rdls => row(false, true, false, Instruction::Rdls, Source::Lock, false, false, Kind::None),
-        Instruction::Wrid => row(false, true, true, Instruction::Lid, Source::Silent, false, false, Kind::Identification),
-        Instruction::Lid => row(false, true, false, Instruction::Lid, Source::Silent, false, false, Kind::Lock),
-        Instruction::Unknown => row(false, false, false, Instruction::Unknown, Source::Silent, false, false, Kind::None),
+        Instruction::Wren => row(
+            false,
+            false,
+            false,
+            Instruction::Wren,
+            Source::Silent,
+            true,
+            false,
+            Kind::None,
+        ),
+        Instruction::Wrdi => row(
+            true,
+            false,
+            false,
+            Instruction::Wrdi,
+            Source::Silent,
+            false,
+            true,
+            Kind::None,
+        ),
+        Instruction::Rdsr => row(
+            true,
+            false,
+            false,
+            Instruction::Rdsr,
+            Source::Status,
+            false,
+            false,
+            Kind::None,
+        ),
+        Instruction::Wrsr => row(
+            false,
+            false,
+            false,
+            Instruction::Wrsr,
+            Source::Silent,
+            false,
+            false,
+            Kind::Status,
+        ),
+        Instruction::Read => row(
+            false,
+            true,
+            false,
+            Instruction::Read,
+            Source::Cells,
+            false,
+            false,
+            Kind::None,
+        ),
+        Instruction::Write => row(
+            false,
+            true,
+            false,
+            Instruction::Write,
+            Source::Silent,
+            false,
+            false,
+            Kind::Array,
+        ),
+        Instruction::Rdid => row(
+            false,
+            true,
+            true,
+            Instruction::Rdls,
+            Source::Identification,
+            false,
+            false,
+            Kind::None,
+        ),
+        Instruction::Rdls => row(
+            false,
+            true,
+            false,
+            Instruction::Rdls,
+            Source::Lock,
+            false,
+            false,
+            Kind::None,
+        ),
+        Instruction::Wrid => row(
+            false,
+            true,
+            true,
+            Instruction::Lid,
+            Source::Silent,
+            false,
+            false,
+            Kind::Identification,
+        ),
+        Instruction::Lid => row(
+            false,
+            true,
+            false,
+            Instruction::Lid,
+            Source::Silent,
+            false,
+            false,
+            Kind::Lock,
+        ),
+        Instruction::Unknown => row(
+            false,
+            false,
+            false,
+            Instruction::Unknown,
+            Source::Silent,
+            false,
+            false,
+            Kind::None,
+        ),
     }
 }
 
 fn change(runs: bool, cells: bool, identification: bool, status: bool, lock: bool) -> Change
     ensures { λ r. ⌜ r ≡ changeOf runs cells identification status lock ⌝ }
 {
-    Change { runs: runs, cells: cells, identification: identification, status: status, lock: lock }
+    Change {
+        runs: runs,
+        cells: cells,
+        identification: identification,
+        status: status,
+        lock: lock,
+    }
 }
 
 // The table of cycles. Columns: it runs; its end changes cells; the identification page; the status; the lock.

@@ -8,8 +8,13 @@ ghost use Rattle.rules.specs.Device.{Widths};
 ghost use Rattle.rules.specs.Instruction.{facts, busy, holdsLatch, commandBytes, startAddress, decode, lockBit};
 ghost use Rattle.rules.specs.Receive.{isAddress, isLast, isLatched, commandAfter, addressAfter, clears, marked, latchAfter, inputAfter, risen, risenLatch};
 ghost use Rattle.rules.specs.Sound.{SoundInput};
-
-use rules::{Command, Facts, Input, Instruction, Kind, Row, State};
+use rules::Command;
+use rules::Facts;
+use rules::Input;
+use rules::Instruction;
+use rules::Kind;
+use rules::Row;
+use rules::State;
 
 // Whole bytes stop counting at 6.
 pub fn counted(bytes: u8) -> u8
@@ -26,10 +31,20 @@ pub fn with_bit(i: Input, d: bool) -> Input
     let value = bits::with_bit(i.value, d);
     if i.bits == 7 {
         let bytes = counted(i.bytes);
-        Input { bits: 0, value: 0, bytes: bytes, last: value }
+        Input {
+            bits: 0,
+            value: 0,
+            bytes: bytes,
+            last: value,
+        }
     } else {
         let bits = i.bits + 1;
-        Input { bits: bits, value: value, bytes: i.bytes, last: i.last }
+        Input {
+            bits: bits,
+            value: value,
+            bytes: i.bytes,
+            last: i.last,
+        }
     }
 }
 
@@ -73,7 +88,11 @@ pub fn start_address(row: Row, code: u8, i: Instruction) -> usize
 pub fn lock_bit(row: Row, address: usize) -> bool
     ensures { λ r. ⌜ r ≡ lockBit row address ⌝ }
 {
-    if row.width == 1 { bits::address_bit(address, 7) } else { bits::address_bit(address, 10) }
+    if row.width == 1 {
+        bits::address_bit(address, 7)
+    } else {
+        bits::address_bit(address, 10)
+    }
 }
 
 // The byte coming in is the last of an identification instruction's address.
@@ -118,15 +137,24 @@ pub fn command_after(row: Row, s: State, byte: u8) -> Command
         let code = tables::decode(row, byte);
         let f = tables::facts(code);
         let away = is_busy(s) & !f.taken;
-        return Command { instruction: code, away: away };
+        return Command {
+            instruction: code,
+            away: away,
+        };
     }
     let whole = bits::with_byte(row, s.place.address, byte);
     if is_last(row, s) & lock_bit(row, whole) {
         let f = tables::facts(i);
         let lock = f.lock;
-        Command { instruction: lock, away: command.away }
+        Command {
+            instruction: lock,
+            away: command.away,
+        }
     } else {
-        Command { instruction: i, away: command.away }
+        Command {
+            instruction: i,
+            away: command.away,
+        }
     }
 }
 

@@ -7,9 +7,14 @@ ghost use lib.ListN.{length};
 ghost use Rattle.rules.specs.Device.{Widths};
 ghost use Rattle.rules.specs.Judge.{storable};
 ghost use Rattle.rules.specs.Send.{byteOf, going, sourceOf, level, isSending, shownAddress, outputOf, outputAfter, fallen};
-
-use crate::receive::{command_bytes, is_busy};
-use rules::{Going, Level, Output, Row, Source, State};
+use crate::receive::command_bytes;
+use crate::receive::is_busy;
+use rules::Going;
+use rules::Level;
+use rules::Output;
+use rules::Row;
+use rules::Source;
+use rules::State;
 
 // How RDID goes on: past the page's end the address stays.
 pub fn page_going(row: Row, address: usize) -> Going
@@ -18,9 +23,17 @@ pub fn page_going(row: Row, address: usize) -> Going
     let page = row.page;
     if address < page {
         let after = address + 1;
-        Going { sends: true, after: after, past: false }
+        Going {
+            sends: true,
+            after: after,
+            past: false,
+        }
     } else {
-        Going { sends: true, after: page, past: true }
+        Going {
+            sends: true,
+            after: page,
+            past: true,
+        }
     }
 }
 
@@ -30,14 +43,30 @@ pub fn going_on(row: Row, source: Source, address: usize) -> Going
     ensures { λ r. ⌜ r ≡ going row source address ⌝ }
 {
     match source {
-        Source::Silent => Going { sends: false, after: address, past: false },
-        Source::Status => Going { sends: true, after: address, past: false },
+        Source::Silent => Going {
+            sends: false,
+            after: address,
+            past: false,
+        },
+        Source::Status => Going {
+            sends: true,
+            after: address,
+            past: false,
+        },
         Source::Cells => {
             let after = bits::cell_after(row, address);
-            Going { sends: true, after: after, past: false }
+            Going {
+                sends: true,
+                after: after,
+                past: false,
+            }
         }
         Source::Identification => page_going(row, address),
-        Source::Lock => Going { sends: true, after: address, past: false },
+        Source::Lock => Going {
+            sends: true,
+            after: address,
+            past: false,
+        },
     }
 }
 
@@ -79,7 +108,14 @@ pub fn shown_address(row: Row, s: State) -> usize
 }
 
 // The byte that a source sends at an address that is not past its end.
-pub fn byte_of(row: Row, s: State, cells: &[u8], identification: &[u8], source: Source, address: usize) -> u8
+pub fn byte_of(
+    row: Row,
+    s: State,
+    cells: &[u8],
+    identification: &[u8],
+    source: Source,
+    address: usize,
+) -> u8
     requires { ⌜ (storable row (s .registers .status) ≡ s .registers .status) × (address < length (now cells)) × (length (now identification) ≡ row .page) × (going row source address .past ≡ false) ⌝ }
     ensures { λ r. ⌜ r ≡ byteOf s (now (cells .entry)) (now (identification .entry)) source address ⌝ }
 {
@@ -104,11 +140,20 @@ pub fn bit_out(byte: u8, bits: u8) -> Output
     ensures { λ r. ⌜ r ≡ outputOf byte bits ⌝ }
 {
     let q = level_of(bits::bit_of(byte, 7 - bits));
-    Output { sending: byte, q: q }
+    Output {
+        sending: byte,
+        q: q,
+    }
 }
 
 // The output at a fall that shows a bit of the byte at an address.
-pub fn output_after(row: Row, s: State, cells: &[u8], identification: &[u8], address: usize) -> Output
+pub fn output_after(
+    row: Row,
+    s: State,
+    cells: &[u8],
+    identification: &[u8],
+    address: usize,
+) -> Output
     requires { ⌜ (Widths row) × (s .input .bits ≤ 7) × (storable row (s .registers .status) ≡ s .registers .status) × (address < row .cells) × (length (now cells) ≡ row .cells) × (length (now identification) ≡ row .page) ⌝ }
     ensures { λ r. ⌜ r ≡ outputAfter row s (now (cells .entry)) (now (identification .entry)) address ⌝ }
 {
@@ -116,7 +161,10 @@ pub fn output_after(row: Row, s: State, cells: &[u8], identification: &[u8], add
     let g = going_on(row, source, address);
     let output = s.output;
     if g.past {
-        return Output { sending: output.sending, q: Level::Z };
+        return Output {
+            sending: output.sending,
+            q: Level::Z,
+        };
     }
     if s.input.bits == 0 {
         let byte = byte_of(row, s, cells, identification, source, address);

@@ -1,0 +1,79 @@
+-- What a wait finishes, one law for each way through the rules.
+use Prim.Native.Nat.{ℕ, _+_, _-_, _*_, _/_, _%_, _^_, _≤_, _<_}
+use mathlib.Core.Path.{_≡_, refl, sym, ap, _∙_, subst}
+use mathlib.Core.Bool.{Bool, true, false, not, _&&_, _||_, and-true, and-false, or-false, true≢false}
+use mathlib.Core.List.{List}
+use native.Mathlib.Nat.{div-add-mod', div-lt-iff-lt-mul, mul-le-mul-right}
+use native.Mathlib.Omega.{arith}
+use lib.ListN.{length}
+use lib.Dec.{leb}
+use borrow.Author.Tests.{not-true, not-false}
+use Rattle.rules.specs.declared.Row.{Row}
+use Rattle.rules.specs.declared.Kind.{Kind}
+use Rattle.rules.specs.declared.Change.{Change}
+use Rattle.rules.specs.declared.State.{State}
+use Rattle.rules.specs.World.{if_then_else_, withStored, World, worldOf}
+use Rattle.rules.specs.Device.{Widths}
+use Rattle.rules.specs.Instruction.{changes}
+use Rattle.rules.specs.Cycle.{written, ends, waitedState, waited}
+use Rattle.rules.proofs.Choice.{and-right}
+use Rattle.rules.proofs.Widths.{page-positive, pages}
+
+module _ (s : State) (n : ℕ) (c : Change) (ec : c ≡ changes (s .cycle .kind)) where
+  pub ends-at : (b : Bool) → (c .runs && leb (s .place .left) n) ≡ b → ends n s ≡ b
+  ends-at b h = ap (λ (x : Change). x .runs && leb (s .place .left) n) (sym ec) ∙ h
+
+  pub wait-goes : (left : ℕ) → left ≡ s .place .left - n → not (c .runs && leb (s .place .left) n) ≡ true → withStored (s .registers) (s .cycle) (s .place .start) left s ≡ waitedState n s
+  unfolding waitedState
+  wait-goes left el h = rw (ends-at false (not-true _ h), and-true (s .registers .wel), or-false (s .registers .locked), el)
+
+  pub wait-ends : (left status : ℕ) → left ≡ s .place .left - n → status ≡ (if c .status then s .cycle .next else s .registers .status) → not (c .runs && leb (s .place .left) n) ≡ false
+      → withStored (record { status = status; wel = false; locked = s .registers .locked || c .lock }) (record { kind = Kind.None; next = s .cycle .next }) (s .place .start) left s ≡ waitedState n s
+  unfolding waitedState
+  wait-ends left status el es h = rw (ends-at true (not-false _ h), and-false (s .registers .wel), es, ec, el)
+
+-- A page start leaves room for its page.
+pub page-room : {row : Row} → Widths row → (a : ℕ) → a % row .page ≡ 0 → a < row .cells → a + row .page ≤ row .cells
+page-room {row} v a e h =
+    let p = row .page in
+    let whole : a / p * p ≡ a = omega (arith, div-add-mod' a p) in
+    let less : a / p < 2 ^ (v .cellBits - v .pageBits) = div-lt-iff-lt-mul (page-positive v) .1 (subst (λ (n : ℕ). a < n) (pages v) h) in
+    omega (arith, mul-le-mul-right p less, pages v)
+
+-- No cycle writes to both.
+one-list : (k : Kind) → changes k .cells ≡ true → changes k .identification ≡ false
+one-list Kind.None e = refl
+one-list Kind.Array e = refl
+one-list Kind.Identification e = absurd (true≢false (sym e))
+one-list Kind.Status e = refl
+one-list Kind.Lock e = refl
+
+and-none : (a b : Bool) → b ≡ false → (a && b) ≡ false
+and-none true b e = e
+and-none false b e = refl
+
+-- The lists after a wait, by what the cycle changes.
+module _ (row : Row) (s t : State) (n : ℕ) (cells identification latch : List ℕ) (c : Change) (ec : c ≡ changes (s .cycle .kind)) (et : t ≡ waitedState n s) where
+  to-cells : (b : Bool) → (c .runs && leb (s .place .left) n && c .cells) ≡ b → (ends n s && changes (s .cycle .kind) .cells) ≡ b
+  to-cells b h = ap (λ (x : Change). x .runs && leb (s .place .left) n && x .cells) (sym ec) ∙ h
+
+  to-page : (b : Bool) → (c .runs && leb (s .place .left) n && c .identification) ≡ b → (ends n s && changes (s .cycle .kind) .identification) ≡ b
+  to-page b h = ap (λ (x : Change). x .runs && leb (s .place .left) n && x .identification) (sym ec) ∙ h
+
+  pub wait-cells : (m : List ℕ) → (c .runs && leb (s .place .left) n && c .cells) ≡ true → m ≡ written (row .page) (row .page) latch (s .place .start) cells
+      → worldOf t m identification latch ≡ waited row n (worldOf s cells identification latch)
+  unfolding waited
+  wait-cells m h em =
+      let e = to-cells true h in
+      let none = and-none (ends n s) (changes (s .cycle .kind) .identification) (one-list (s .cycle .kind) (and-right (ends n s) (changes (s .cycle .kind) .cells) e)) in
+      rw (et, em, e, none)
+
+  pub wait-page : (m : List ℕ) → (c .runs && leb (s .place .left) n && c .cells) ≡ false → (c .runs && leb (s .place .left) n && c .identification) ≡ true
+      → m ≡ written (row .page) (row .page) latch 0 identification → worldOf t cells m latch ≡ waited row n (worldOf s cells identification latch)
+  unfolding waited
+  wait-page m g h em = rw (et, em, to-cells false g, to-page true h)
+
+  pub wait-none : (c .runs && leb (s .place .left) n && c .cells) ≡ false → (c .runs && leb (s .place .left) n && c .identification) ≡ false
+      → worldOf t cells identification latch ≡ waited row n (worldOf s cells identification latch)
+  unfolding waited
+  wait-none g h = rw (et, to-cells false g, to-page false h)
