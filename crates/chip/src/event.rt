@@ -8,8 +8,15 @@ ghost use Rattle.rules.specs.Event.{selected, deselected, sawLow, powered, deco
 ghost use Rattle.rules.specs.Trace.{answerByte};
 ghost use Rattle.rules.specs.Sound.{Sound, Lent};
 ghost use Rattle.chip.specs.Alone.{stepAlone};
-
-use rules::{Command, Event, Input, Instruction, Level, Output, Row, Selection, State};
+use rules::Command;
+use rules::Event;
+use rules::Input;
+use rules::Instruction;
+use rules::Level;
+use rules::Output;
+use rules::Row;
+use rules::Selection;
+use rules::State;
 use wire::receive;
 use wire::send;
 use write::cycle;
@@ -40,10 +47,25 @@ pub fn select(s: State) -> State
     ensures { λ r. ⌜ r ≡ selected s ⌝ }
 {
     let seen = !s.pins.w;
-    let selection = Selection { selected: true, held: false, seen: seen };
-    let input = Input { bits: 0, value: 0, bytes: 0, last: 0 };
-    let command = Command { instruction: Instruction::Unknown, away: false };
-    let output = Output { sending: 0, q: Level::Z };
+    let selection = Selection {
+        selected: true,
+        held: false,
+        seen: seen,
+    };
+    let input = Input {
+        bits: 0,
+        value: 0,
+        bytes: 0,
+        last: 0,
+    };
+    let command = Command {
+        instruction: Instruction::Unknown,
+        away: false,
+    };
+    let output = Output {
+        sending: 0,
+        q: Level::Z,
+    };
     let mut t = s;
     t.place.address = 0;
     t.selection = selection;
@@ -57,10 +79,22 @@ pub fn select(s: State) -> State
 pub fn deselect(s: State) -> State
     ensures { λ r. ⌜ r ≡ deselected s ⌝ }
 {
-    let selection = Selection { selected: false, held: false, seen: s.selection.seen };
-    let input = Input { bits: 0, value: 0, bytes: 0, last: s.input.last };
+    let selection = Selection {
+        selected: false,
+        held: false,
+        seen: s.selection.seen,
+    };
+    let input = Input {
+        bits: 0,
+        value: 0,
+        bytes: 0,
+        last: s.input.last,
+    };
     let was = s.output;
-    let output = Output { sending: was.sending, q: Level::Z };
+    let output = Output {
+        sending: was.sending,
+        q: Level::Z,
+    };
     let mut t = s;
     t.selection = selection;
     t.input = input;
@@ -69,7 +103,7 @@ pub fn deselect(s: State) -> State
 }
 
 // D is set.
-pub fn data(row: Row, s: State, high: bool) -> State
+pub fn set_data(row: Row, s: State, high: bool) -> State
     ensures { λ r. ⌜ r ≡ stepAlone row (Event.Data high) s ⌝ }
 {
     let mut t = s;
@@ -133,7 +167,14 @@ pub fn power(row: Row, s: State) -> State
 }
 
 // C is set.
-pub fn clock(row: Row, s: State, cells: &[u8], identification: &[u8], latch: &mut [u8], high: bool) -> State
+pub fn clock(
+    row: Row,
+    s: State,
+    cells: &[u8],
+    identification: &[u8],
+    latch: &mut [u8],
+    high: bool,
+) -> State
     requires { ⌜ (Widths row) × (Sound row (worldOf s (now cells) (now identification) (now latch))) × (Lent row (worldOf s (now cells) (now identification) (now latch))) ⌝ }
     ensures { λ r. ⌜ worldOf r (now (cells .entry)) (now (identification .entry)) (now (latch .exit)) ≡ step row (Event.Clock high) (worldOf s (now (cells .entry)) (now (identification .entry)) (now (latch .entry))) ⌝ }
 {
@@ -150,13 +191,20 @@ pub fn clock(row: Row, s: State, cells: &[u8], identification: &[u8], latch: &mu
 }
 
 // Any event that is not refused.
-pub fn step(row: Row, s: State, cells: &mut [u8], identification: &mut [u8], latch: &mut [u8], event: Event) -> State
+pub fn step(
+    row: Row,
+    s: State,
+    cells: &mut [u8],
+    identification: &mut [u8],
+    latch: &mut [u8],
+    event: Event,
+) -> State
     requires { ⌜ (Widths row) × (Sound row (worldOf s (now cells) (now identification) (now latch))) × (Lent row (worldOf s (now cells) (now identification) (now latch))) ⌝ }
     ensures { λ r. ⌜ worldOf r (now (cells .exit)) (now (identification .exit)) (now (latch .exit)) ≡ step row event (worldOf s (now (cells .entry)) (now (identification .entry)) (now (latch .entry))) ⌝ }
 {
     match event {
         Event::Clock(high) => clock(row, s, cells, identification, latch, high),
-        Event::Data(high) => data(row, s, high),
+        Event::Data(high) => set_data(row, s, high),
         Event::Select(high) => chip_select(row, s, high),
         Event::Hold(high) => hold(row, s, high),
         Event::Protect(high) => write_protect(row, s, high),

@@ -1,4 +1,4 @@
 // One device: whether its state is sound (`sound`), and what each event does to it (`event`).
 
-pub mod sound;
 pub mod event;
+pub mod sound;

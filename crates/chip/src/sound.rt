@@ -9,8 +9,9 @@ ghost use Rattle.rules.specs.Sound.{_implies_, all, isZ, receivedClauses, cycle
 ghost use Rattle.rules.specs.World.{if_then_else_};
 ghost use Rattle.rules.specs.Instruction.{busy};
 ghost use lib.Dec.{eqb, leb};
-
-use rules::{Level, Row, State};
+use rules::Level;
+use rules::Row;
+use rules::State;
 
 pub fn implies(a: bool, b: bool) -> bool
     ensures { λ r. ⌜ r ≡ (a implies b) ⌝ }
@@ -78,7 +79,10 @@ pub fn resting_sound(s: State) -> bool
     let off = !s.selection.selected;
     let output = s.output;
     let q = output.q;
-    implies(off, !s.selection.held) & implies(off, s.input.bits == 0) & implies(off, s.input.bytes == 0) & implies(off, is_z(q))
+    implies(off, !s.selection.held)
+        & implies(off, s.input.bits == 0)
+        & implies(off, s.input.bytes == 0)
+        & implies(off, is_z(q))
 }
 
 // Selected: S low, W seen low, held by HOLD; and what a cycle turned away.
@@ -101,5 +105,9 @@ pub fn is_sound(row: Row, s: State, latch: &[u8]) -> bool
     requires { ⌜ (Widths row) × (length (now latch) ≡ row .page + row .page) ⌝ }
     ensures { λ r. ⌜ r ≡ isSound row s (now (latch .entry)) ⌝ }
 {
-    received_sound(row, s) & cycle_sound(row, s) & resting_sound(s) & selected_sound(s) & memory::latch_is_marked(row, latch)
+    received_sound(row, s)
+        & cycle_sound(row, s)
+        & resting_sound(s)
+        & selected_sound(s)
+        & memory::latch_is_marked(row, latch)
 }

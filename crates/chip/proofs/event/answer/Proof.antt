@@ -1,9 +1,10 @@
+use Rattle.chip.proofs.Events.{answer-held, answer-level}
 use borrow.Author.Needs.{needs}
 use Rattle.chip.proofs.event.answer.Statement.{statement}
 use Rattle.chip.proofs.event.answer.Tie as tie
 
 returns : tie.Need-returns
-returns c = ?
+returns c = answer-held (c .before .before .args .s) (c .if1 .taken)
 
 enum-told : tie.Need-enum-told
 enum-told c = search needs
@@ -15,13 +16,13 @@ enum-told-3 : tie.Need-enum-told-3
 enum-told-3 c = search needs
 
 returns-2 : tie.Need-returns-2
-returns-2 c = ?
+returns-2 c = answer-level (c .before .before .before .before .args .s) _ (c .before .before .if1 .left) (c .enum-told .given .1)
 
 returns-3 : tie.Need-returns-3
-returns-3 c = ?
+returns-3 c = answer-level (c .before .before .before .before .args .s) _ (c .before .before .if1 .left) (c .enum-told2 .given .1)
 
 returns-4 : tie.Need-returns-4
-returns-4 c = ?
+returns-4 c = answer-level (c .before .before .before .before .args .s) _ (c .before .before .if1 .left) (c .enum-told3 .given .1)
 
 pub answer-spec : {M : Type 1} → statement M
 answer-spec =

@@ -1,3 +1,4 @@
+use Rattle.chip.proofs.Events.{select-ends, select-idle, select-begins, select-low}
 use borrow.Author.Needs.{needs}
 use Rattle.chip.proofs.event.chip_select.Statement.{statement}
 use Rattle.chip.proofs.event.chip_select.Tie as tie
@@ -12,13 +13,13 @@ settle-requires : tie.Need-settle-requires
 settle-requires c κs = search needs
 
 returns : tie.Need-returns
-returns c = ?
+returns c = select-ends (c .before .before .before .before .before .before .before .before .args .row) (c .before .before .before .before .before .before .before .before .args .s) _ (c .before .before .before .before .before .before .before .before .args .high) (c .before .before .before .judge .result) (c .before .before .deselect .result) (c .before .before .before .before .before .before .before .if1 .taken) (c .before .before .before .before .if2 .taken) (c .before .before .before .judge .ensures) (c .before .before .deselect .ensures) (c .settle .ensures)
 
 settle-requires-2 : tie.Need-settle-requires-2
 settle-requires-2 c κs = search needs
 
 returns-2 : tie.Need-returns-2
-returns-2 c = ?
+returns-2 c = select-idle (c .before .before .before .before .before .before .args .row) (c .before .before .before .before .before .before .args .s) _ (c .before .before .before .before .before .before .args .high) (c .before .before .before .before .before .if1 .taken) (c .before .before .if2 .left) (c .settle2 .ensures)
 
 select-requires : tie.Need-select-requires
 select-requires c κs = search needs
@@ -27,13 +28,13 @@ settle-requires-3 : tie.Need-settle-requires-3
 settle-requires-3 c κs = search needs
 
 returns-3 : tie.Need-returns-3
-returns-3 c = ?
+returns-3 c = select-begins (c .before .before .before .before .before .args .row) (c .before .before .before .before .before .args .s) _ (c .before .before .before .before .before .args .high) (c .before .before .select .result) (c .before .before .before .before .if1 .left) (c .before .before .before .if3 .taken) (c .before .before .select .ensures) (c .settle3 .ensures)
 
 settle-requires-4 : tie.Need-settle-requires-4
 settle-requires-4 c κs = search needs
 
 returns-4 : tie.Need-returns-4
-returns-4 c = ?
+returns-4 c = select-low (c .before .before .before .args .row) (c .before .before .before .args .s) _ (c .before .before .before .args .high) (c .before .before .if1 .left) (c .before .if3 .left) (c .settle4 .ensures)
 
 pub chip-select-spec : {M : Type 1} → statement M
 chip-select-spec =

@@ -1,3 +1,4 @@
+use Rattle.chip.proofs.Events.{step-by, data-alone, select-alone, hold-alone, protect-alone, power-alone, waits}
 use borrow.Author.Needs.{needs}
 use Rattle.chip.proofs.event.step.Statement.{statement}
 use Rattle.chip.proofs.event.step.Tie as tie
@@ -11,8 +12,8 @@ clock-requires c κs = search needs
 enum-known-event-2 : tie.Need-enum-known-event-2
 enum-known-event-2 c = search needs
 
-data-requires : tie.Need-data-requires
-data-requires c κs = search needs
+set-data-requires : tie.Need-set-data-requires
+set-data-requires c κs = search needs
 
 enum-known-event-3 : tie.Need-enum-known-event-3
 enum-known-event-3 c = search needs
@@ -36,7 +37,7 @@ enum-known-event-6 : tie.Need-enum-known-event-6
 enum-known-event-6 c = search needs
 
 wait-requires : tie.Need-wait-requires
-wait-requires c κs = search needs
+wait-requires c κs = (c .before .before .before .before .before .before .before .before .before .pre .0, c .before .before .before .before .before .before .before .before .before .pre .1 .unsettled .cycle, c .before .before .before .before .before .before .before .before .before .pre .2)
 
 settle-requires : tie.Need-settle-requires
 settle-requires c κs = search needs
@@ -57,19 +58,19 @@ same-length-3 : tie.Need-same-length-3
 same-length-3 c = search needs
 
 returns : tie.Need-returns
-returns c = ?
+returns c = step-by (c .before .before .before .before .before .before .before .before .before .before .before .before .args .row) _ _ (c .before .before .before .before .before .before .before .before .before .before .before .before .args .event) _ (c .before .before .before .before .before .before .before .event .given .1) (c .before .before .clock .ensures)
 
 returns-2 : tie.Need-returns-2
-returns-2 c = ?
+returns-2 c = step-by (c .before .before .before .before .before .before .before .args .row) _ _ (c .before .before .before .before .before .before .before .args .event) _ (c .before .before .event2 .given .1) (data-alone (c .before .before .before .before .before .before .before .args .row) (c .before .before .before .before .before .before .before .args .s) _ _ _ _ _ (c .set-data .ensures))
 
 returns-3 : tie.Need-returns-3
-returns-3 c = ?
+returns-3 c = step-by (c .before .before .before .before .before .before .before .args .row) _ _ (c .before .before .before .before .before .before .before .args .event) _ (c .before .before .event3 .given .1) (select-alone (c .before .before .before .before .before .before .before .args .row) (c .before .before .before .before .before .before .before .args .s) _ _ _ _ _ (c .chip-select .ensures))
 
 returns-4 : tie.Need-returns-4
-returns-4 c = ?
+returns-4 c = step-by (c .before .before .before .before .before .before .before .args .row) _ _ (c .before .before .before .before .before .before .before .args .event) _ (c .before .before .event4 .given .1) (hold-alone (c .before .before .before .before .before .before .before .args .row) (c .before .before .before .before .before .before .before .args .s) _ _ _ _ _ (c .hold .ensures))
 
 returns-5 : tie.Need-returns-5
-returns-5 c = ?
+returns-5 c = step-by (c .before .before .before .before .before .before .before .args .row) _ _ (c .before .before .before .before .before .before .before .args .event) _ (c .before .before .event5 .given .1) (protect-alone (c .before .before .before .before .before .before .before .args .row) (c .before .before .before .before .before .before .before .args .s) _ _ _ _ _ (c .write-protect .ensures))
 
 same-length-4 : tie.Need-same-length-4
 same-length-4 c = search needs
@@ -81,10 +82,10 @@ same-length-6 : tie.Need-same-length-6
 same-length-6 c = search needs
 
 returns-6 : tie.Need-returns-6
-returns-6 c = ?
+returns-6 c = step-by (c .before .before .before .before .before .before .before .before .before .before .before .before .before .before .before .args .row) _ _ (c .before .before .before .before .before .before .before .before .before .before .before .before .before .before .before .args .event) _ (c .before .before .before .before .before .before .before .before .before .before .event6 .given .1) (waits (c .before .before .before .before .before .before .before .before .before .before .before .before .before .before .before .args .row) _ _ _ _ (c .before .before .before .before .before .wait .ensures) (c .settle .ensures))
 
 returns-7 : tie.Need-returns-7
-returns-7 c = ?
+returns-7 c = step-by (c .before .before .before .before .before .before .args .row) _ _ (c .before .before .before .before .before .before .args .event) _ (c .before .enum-told .given .1) (power-alone (c .before .before .before .before .before .before .args .row) (c .before .before .before .before .before .before .args .s) _ _ _ _ (c .power .ensures))
 
 pub step-spec : {M : Type 1} → statement M
 step-spec =
@@ -93,7 +94,7 @@ step-spec =
     enum-known-event
     clock-requires
     enum-known-event-2
-    data-requires
+    set-data-requires
     enum-known-event-3
     chip-select-requires
     enum-known-event-4

@@ -1,3 +1,4 @@
+use Rattle.chip.proofs.Clauses.{cycle-all}
 use borrow.Author.Needs.{needs}
 use Rattle.chip.proofs.sound.cycle_sound.Statement.{statement}
 use Rattle.chip.proofs.sound.cycle_sound.Tie as tie
@@ -21,7 +22,7 @@ place-requires : tie.Need-place-requires
 place-requires c κs = search needs
 
 returns : tie.Need-returns
-returns c = ?
+returns c = cycle-all (c .before .before .before .before .before .before .before .before .args .row) (c .before .before .before .before .before .before .before .before .args .s) (c .before .before .before .before .stored .result) (c .before .before .before .stored2 .result) (c .before .place .result) (c .before .before .time-sound .result) (c .before .before .before .before .before .implies .result) (c .before .before .before .before .before .before .changes .result) (c .before .before .before .before .stored .ensures) (c .before .before .before .stored2 .ensures) (c .before .before .time-sound .ensures) (c .before .place .ensures) (c .before .before .before .before .before .before .changes .ensures) (c .before .before .before .before .before .implies .ensures)
 
 pub cycle-sound-spec : {M : Type 1} → statement M
 cycle-sound-spec =

@@ -1,3 +1,4 @@
+use Rattle.chip.proofs.Clauses.{all-sound}
 use borrow.Author.Needs.{needs}
 use Rattle.chip.proofs.sound.is_sound.Statement.{statement}
 use Rattle.chip.proofs.sound.is_sound.Tie as tie
@@ -18,7 +19,7 @@ latch-is-marked-requires : tie.Need-latch-is-marked-requires
 latch-is-marked-requires c κs = search needs
 
 returns : tie.Need-returns
-returns c = ?
+returns c = all-sound (c .before .before .before .before .before .before .args .row) (c .before .before .before .before .before .before .args .s) _ (c .before .before .before .before .received-sound .result) (c .before .before .before .cycle-sound .result) (c .before .before .resting-sound .result) (c .before .selected-sound .result) (c .latch-is-marked .result) (c .before .before .before .before .received-sound .ensures) (c .before .before .before .cycle-sound .ensures) (c .before .before .resting-sound .ensures) (c .before .selected-sound .ensures) (c .latch-is-marked .ensures)
 
 pub is-sound-spec : {M : Type 1} → statement M
 is-sound-spec =

@@ -1,3 +1,4 @@
+use Rattle.chip.proofs.Clauses.{resting-all}
 use borrow.Author.Needs.{needs}
 use Rattle.chip.proofs.sound.resting_sound.Statement.{statement}
 use Rattle.chip.proofs.sound.resting_sound.Tie as tie
@@ -18,7 +19,7 @@ implies-requires-4 : tie.Need-implies-requires-4
 implies-requires-4 c κs = search needs
 
 returns : tie.Need-returns
-returns c = ?
+returns c = resting-all (c .before .before .before .before .before .before .before .before .before .before .args .s) (c .before .before .before .before .before .before .implies .result) (c .before .before .before .before .implies2 .result) (c .before .before .implies3 .result) (c .implies4 .result) (c .before .is-z .result) (c .before .before .before .before .before .before .implies .ensures) (c .before .before .before .before .implies2 .ensures) (c .before .before .implies3 .ensures) (c .before .is-z .ensures) (c .implies4 .ensures)
 
 pub resting-sound-spec : {M : Type 1} → statement M
 resting-sound-spec =

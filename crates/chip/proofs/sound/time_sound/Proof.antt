@@ -1,3 +1,4 @@
+use Rattle.chip.proofs.Clauses.{time-runs, time-rests}
 use borrow.Author.Needs.{needs}
 use Rattle.chip.proofs.sound.time_sound.Statement.{statement}
 use Rattle.chip.proofs.sound.time_sound.Tie as tie
@@ -6,10 +7,10 @@ is-busy-requires : tie.Need-is-busy-requires
 is-busy-requires c κs = search needs
 
 returns : tie.Need-returns
-returns c = ?
+returns c = time-runs (c .before .before .before .args .row) (c .before .before .before .args .s) (c .before .before .is-busy .result) (c .before .before .is-busy .ensures) (c .before .if1 .taken)
 
 returns-2 : tie.Need-returns-2
-returns-2 c = ?
+returns-2 c = time-rests (c .before .before .args .row) (c .before .before .args .s) (c .before .is-busy .result) (c .before .is-busy .ensures) (c .if1 .left)
 
 pub time-sound-spec : {M : Type 1} → statement M
 time-sound-spec = tie.close (tie.spec is-busy-requires returns returns-2)
