@@ -6,18 +6,19 @@ use Rattle.rules.specs.Event.{step, answer, refusal}
 use Rattle.rules.specs.Trace.{two, answerByte, Progress, run}
 
 -- 1 to 4: no such device; cells, identification page or latch of a wrong length.
-unfoldable pub lentRefusal : ℕ → World → ℕ
-lentRefusal device w =
+unfoldable pub lentRefusal : ℕ → List ℕ → List ℕ → List ℕ → ℕ
+lentRefusal device cells identification latch =
     if not (isDevice device) then 1
-    else if not (eqb (length (w .cells)) (rowOf device .cells)) then 2
-    else if not (eqb (length (w .identification)) (rowOf device .page)) then 3
-    else if not (eqb (length (w .latch)) (rowOf device .page + rowOf device .page)) then 4
+    else if not (eqb (length cells) (rowOf device .cells)) then 2
+    else if not (eqb (length identification) (rowOf device .page)) then 3
+    else if not (eqb (length latch) (rowOf device .page + rowOf device .page)) then 4
     else 0
 
 -- 5 then: the state not sound, or a mark not 0 or 1.
 unfoldable pub worldRefusal : ℕ → World → ℕ
 worldRefusal device w =
-    if not (eqb (lentRefusal device w) 0) then lentRefusal device w
+    let n = lentRefusal device (w .cells) (w .identification) (w .latch) in
+    if not (eqb n 0) then n
     else if not (isSound (rowOf device) (w .state) (w .latch)) then 5
     else 0
 
@@ -29,7 +30,7 @@ pub record Prepared : Type 0 where
 unfoldable pub prepareOutcome : ℕ → List ℕ → List ℕ → List ℕ → Prepared
 prepareOutcome device cells identification latch =
     let lent : World = record { state = preparedState; cells = cells; identification = identification; latch = latch } in
-    let n = lentRefusal device lent in
+    let n = lentRefusal device cells identification latch in
     record { number = n; world = if eqb n 0 then prepared (rowOf device) else lent }
 
 -- A single event: 1 to 5, then 11. A refused event answers 2 and changes nothing.

@@ -28,6 +28,9 @@ eventAt t at =
     else if eqb (two t (at + 2)) 2 then Event.Wait (four t (at + 4))
     else Event.Power
 
+abbrev pub badPin : List ℕ → ℕ → ℕ → Bool
+badPin t at kind = eqb kind 1 && ltb 9 (getD t (at + 4) 0)
+
 -- 01, "Numbers given back": what the record at a place is refused with, in 01's order, or 0. A record wants an answer byte.
 unfoldable pub recordRefusal : List ℕ → ℕ → Bool → State → ℕ
 recordRefusal t at full s =
@@ -37,7 +40,7 @@ recordRefusal t at full s =
     else if eqb (lengthOf kind) 0 then 7
     else if not (eqb (two t at) (lengthOf kind)) then 8
     else if ltb left (2 + two t at) then 6
-    else if eqb kind 1 && ltb 9 (getD t (at + 4) 0) then 9
+    else if badPin t at kind then 9
     else if full then 10
     else refusal (eventAt t at) s
 
@@ -54,6 +57,9 @@ pub record Progress : Type 0 where
   pub done : ℕ
   pub world : World
   pub answers : List ℕ
+
+abbrev pub progressOf : ℕ → ℕ → ℕ → World → List ℕ → Progress
+progressOf number taken done w answers = record { number = number; taken = taken; done = done; world = w; answers = answers }
 
 -- One more record, if the run has not ended by a refusal or at the trace's end.
 unfoldable pub turn : Row → List ℕ → Progress → Progress
