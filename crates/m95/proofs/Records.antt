@@ -111,18 +111,18 @@ ready t at full s =
     let P : ℕ → Type 0 = λ (n : ℕ). n ≡ 0 → Ready t at full s in
     if-elim P (ltb left 4) (λ _ e. absurd (omega arith))
     (λ h4. if-elim P (eqb (lengthOf kind) 0) (λ _ e. absurd (omega arith))
-      (λ hk. if-elim P (not (eqb (two t at) (lengthOf kind))) (λ _ e. absurd (omega arith))
-        (λ hs. if-elim P (ltb left (2 + two t at)) (λ _ e. absurd (omega arith))
-          (λ hb. if-elim P (badPin t at kind) (λ _ e. absurd (omega arith))
-            (λ hp. if-elim P full (λ _ e. absurd (omega arith))
-              (λ hf e.
-                record {
-                  head = ltb-false left 4 h4;
-                  size = eqb-true (two t at) (lengthOf kind) (not-false (eqb (two t at) (lengthOf kind)) hs);
-                  body = ltb-false left (2 + two t at) hb;
-                  room = hf;
-                  taken = e
-                }))))))
+    (λ hk. if-elim P (not (eqb (two t at) (lengthOf kind))) (λ _ e. absurd (omega arith))
+    (λ hs. if-elim P (ltb left (2 + two t at)) (λ _ e. absurd (omega arith))
+    (λ hb. if-elim P (badPin t at kind) (λ _ e. absurd (omega arith))
+    (λ hp. if-elim P full (λ _ e. absurd (omega arith))
+    (λ hf e.
+    record {
+      head = ltb-false left 4 h4;
+      size = eqb-true (two t at) (lengthOf kind) (not-false (eqb (two t at) (lengthOf kind)) hs);
+      body = ltb-false left (2 + two t at) hb;
+      room = hf;
+      taken = e;
+    }))))))
 
 -- One turn.
 module _ (row : Row) (t : List ℕ) (at k : ℕ) (w : World) (a : List ℕ) (h : at < length t) where

@@ -8,8 +8,9 @@ ghost use Rattle.rules.specs.World.{worldOf};
 ghost use Rattle.rules.specs.Device.{Widths};
 ghost use Rattle.rules.specs.Sound.{Sound, Lent};
 ghost use Rattle.rules.specs.Trace.{two, lengthOf, pinEvent, eventAt, badPin, recordRefusal, progressOf, turn};
-
-use rules::{Event, Row, State};
+use rules::Event;
+use rules::Row;
+use rules::State;
 
 // Two bytes at a place, the least significant first.
 pub fn two_at(trace: &[u8], at: usize) -> usize
@@ -107,13 +108,28 @@ pub struct Turn {
     pub state: State,
 }
 
-pub fn one(row: Row, s: State, cells: &mut [u8], identification: &mut [u8], latch: &mut [u8], trace: &[u8], answers: &mut [u8], at: usize, n: usize) -> Turn
+pub fn one(
+    row: Row,
+    s: State,
+    cells: &mut [u8],
+    identification: &mut [u8],
+    latch: &mut [u8],
+    trace: &[u8],
+    answers: &mut [u8],
+    at: usize,
+    n: usize,
+) -> Turn
     requires { ⌜ (Widths row) × (Sound row (worldOf s (now cells) (now identification) (now latch))) × (Lent row (worldOf s (now cells) (now identification) (now latch))) × (at < length (now trace)) ⌝ }
     ensures { λ r. ⌜ progressOf (r .number) (r .taken) (r .done) (worldOf (r .state) (now (cells .exit)) (now (identification .exit)) (now (latch .exit))) (now (answers .exit)) ≡ turn row (now (trace .entry)) (progressOf 0 at n (worldOf s (now (cells .entry)) (now (identification .entry)) (now (latch .entry))) (now (answers .entry))) ⌝ }
 {
     let number = refused(trace, at, answers.len() <= n, s);
     if number != 0 {
-        return Turn { number: number, taken: at, done: n, state: s };
+        return Turn {
+            number: number,
+            taken: at,
+            done: n,
+            state: s,
+        };
     }
     let size = two_at(trace, at);
     let kind = two_at(trace, at + 2);
@@ -122,5 +138,10 @@ pub fn one(row: Row, s: State, cells: &mut [u8], identification: &mut [u8], latc
     let done = n + 1;
     let t = chip::event::step(row, s, cells, identification, latch, event);
     answers[n] = chip::event::answer(t);
-    Turn { number: 0, taken: next, done: done, state: t }
+    Turn {
+        number: 0,
+        taken: next,
+        done: done,
+        state: t,
+    }
 }
