@@ -158,3 +158,7 @@ pin-done {t} {at} {p} s h le e =
     let four : ltb (length t - at) 4 ≡ false = le-ltb (length t - at) 4 (omega (arith, h .whole)) in
     let five : ltb (length t - at) 5 ≡ false = le-ltb (length t - at) 5 (h .whole) in
     (rw (four, h .size, h .kind, five, bad, h .byte) e, rw (h .kind, h .byte))
+
+-- What was sorted, once its way is known.
+pub known-way : (row : Row) (s : State) (t : List ℕ) (at : ℕ) (room : Bool) (x y : Usual) → x ≡ y → Sorted row s t at room x → Sorted row s t at room y
+known-way row s t at room x y e h = subst (Sorted row s t at room) e h

@@ -2,4 +2,5 @@
 // and the whole contents of every lent buffer as one function of the input (the outcomes of rules/specs/Call.antt).
 
 pub mod quick;
+pub mod records;
 pub mod trace;

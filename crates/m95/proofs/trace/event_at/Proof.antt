@@ -2,7 +2,7 @@ use Prim.Native.Nat.{_+_}
 use Rattle.rules.specs.Trace.{lengthOf}
 use native.Mathlib.Omega.{arith}
 use mathlib.Core.Path.{ap}
-use Rattle.m95.proofs.Records.{event-pin, event-wait, event-power, two-small}
+use Rattle.m95.proofs.Reading.{event-pin, event-wait, event-power, two-small}
 use borrow.Author.Needs.{needs}
 use Rattle.m95.proofs.trace.event_at.Statement.{statement}
 use Rattle.m95.proofs.trace.event_at.Tie as tie

@@ -1,7 +1,7 @@
 use Rattle.rules.specs.Trace.{lengthOf}
 use native.Mathlib.Omega.{arith}
 use mathlib.Core.Path.{ap}
-use Rattle.m95.proofs.Records.{pin-first, pin-other}
+use Rattle.m95.proofs.Reading.{pin-first, pin-other}
 use borrow.Author.Needs.{needs}
 use Rattle.m95.proofs.trace.is_bad_pin.Statement.{statement}
 use Rattle.m95.proofs.trace.is_bad_pin.Tie as tie

@@ -1,4 +1,4 @@
-use Rattle.m95.proofs.Records.{length-none}
+use Rattle.m95.proofs.Reading.{length-none}
 use borrow.Author.Needs.{needs}
 use Rattle.m95.proofs.trace.length_of.Statement.{statement}
 use Rattle.m95.proofs.trace.length_of.Tie as tie

@@ -5,7 +5,7 @@ use lib.ListN.{length}
 use lib.Dec.{leb}
 use native.Mathlib.Omega.{arith}
 use mathlib.Core.Path.{ap, sym, _∙_}
-use Rattle.m95.proofs.Records.{ready, turn-refused, turn-does}
+use Rattle.m95.proofs.Reading.{ready, turn-refused, turn-does}
 use borrow.Author.Needs.{needs}
 use Rattle.m95.proofs.trace.one.Statement.{statement}
 use Rattle.m95.proofs.trace.one.Tie as tie

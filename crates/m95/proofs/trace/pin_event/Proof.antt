@@ -1,4 +1,4 @@
-use Rattle.m95.proofs.Records.{pin-clock, pin-data, pin-select, pin-hold, pin-protect}
+use Rattle.m95.proofs.Reading.{pin-clock, pin-data, pin-select, pin-hold, pin-protect}
 use borrow.Author.Needs.{needs}
 use Rattle.m95.proofs.trace.pin_event.Statement.{statement}
 use Rattle.m95.proofs.trace.pin_event.Tie as tie

@@ -1,5 +1,5 @@
 use native.Mathlib.Omega.{arith}
-use Rattle.m95.proofs.Records.{refused-head, refused-kind, refused-length, refused-body, refused-pin, refused-full, refused-event, length-small}
+use Rattle.m95.proofs.Reading.{refused-head, refused-kind, refused-length, refused-body, refused-pin, refused-full, refused-event, length-small}
 use borrow.Author.Needs.{needs}
 use Rattle.m95.proofs.trace.refused.Statement.{statement}
 use Rattle.m95.proofs.trace.refused.Tie as tie
