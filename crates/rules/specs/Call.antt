@@ -27,6 +27,9 @@ pub record Prepared : Type 0 where
   pub number : ℕ
   pub world : World
 
+abbrev pub preparedAs : ℕ → World → Prepared
+preparedAs number w = record { number = number; world = w }
+
 unfoldable pub prepareOutcome : ℕ → List ℕ → List ℕ → List ℕ → Prepared
 prepareOutcome device cells identification latch =
     let lent : World = record { state = preparedState; cells = cells; identification = identification; latch = latch } in
@@ -38,6 +41,9 @@ pub record Replied : Type 0 where
   pub number : ℕ
   pub answer : ℕ
   pub world : World
+
+abbrev pub repliedAs : ℕ → ℕ → World → Replied
+repliedAs number answer w = record { number = number; answer = answer; world = w }
 
 unfoldable pub eventOutcome : ℕ → World → Event → Replied
 eventOutcome device w e =
@@ -55,6 +61,9 @@ runOutcome device w trace answers limit =
 pub record Shown : Type 0 where
   pub number : ℕ
   pub part : List ℕ
+
+abbrev pub shownAs : ℕ → List ℕ → Shown
+shownAs number part = record { number = number; part = part }
 
 unfoldable pub cellPageOutcome : ℕ → List ℕ → ℕ → Shown
 cellPageOutcome device cells address =

@@ -1,0 +1,184 @@
+-- The outcome of each call, one law for each way through the rules.
+use Prim.Native.Nat.{ℕ, _+_, _-_, _*_, _%_, _≤_, _<_}
+use mathlib.Core.Path.{_≡_, refl, sym, ap, _∙_, subst}
+use mathlib.Core.Bool.{Bool, true, false, not, _&&_, true≢false}
+use mathlib.Core.List.{List, [], _++_}
+use native.Mathlib.Nat.{mod-le, add-sub-cancel-left}
+use native.Mathlib.Omega.{arith}
+use lib.ListN.{length, take, drop, replicate}
+use lib.Dec.{eqb, leb}
+use borrow.Author.Tests.{eqb-true, eq-eqb, ne-eqb, le-leb, lt-leb, not-true, not-false}
+use Rattle.rules.specs.declared.Row.{Row}
+use Rattle.rules.specs.declared.Event.{Event}
+use Rattle.rules.specs.declared.State.{State}
+use Rattle.rules.specs.World.{if_then_else_, World, worldOf}
+use Rattle.rules.specs.Device.{Widths, isDevice, rowOf, code, preparedState, prepared}
+use Rattle.rules.specs.Event.{step, answer, refusal}
+use Rattle.rules.specs.Sound.{isSound, Sound, Lent}
+use Rattle.rules.specs.Trace.{answerByte, Progress, progressOf, run}
+use Rattle.rules.specs.Call.{lentRefusal, worldRefusal, Prepared, preparedAs, prepareOutcome, Replied, repliedAs, eventOutcome, runOutcome, Shown, shownAs, cellPageOutcome, identificationPageOutcome}
+use Rattle.rules.proofs.Choice.{if-elim}
+use Rattle.rules.proofs.Soundness.{reads}
+use Rattle.rules.proofs.Widths.{of-device, start-aligned}
+use Rattle.write.proofs.Passing.{page-room}
+
+-- The row that was looked up has the widths.
+pub row-widths : (device : ℕ) (row : Row) → row ≡ rowOf device → Widths row
+row-widths device row e = subst Widths (sym e) (of-device device)
+
+-- The lent buffers.
+module _ (device : ℕ) (row : Row) (d : Bool) (er : row ≡ rowOf device) (ed : d ≡ isDevice device) where
+  pub cells-at : rowOf device .cells ≡ row .cells
+  cells-at = ap (λ (x : Row). x .cells) (sym er)
+
+  pub page-at : rowOf device .page ≡ row .page
+  page-at = ap (λ (x : Row). x .page) (sym er)
+
+  module _ (cells identification latch : List ℕ) where
+    pub lent-device : not d ≡ true → 1 ≡ lentRefusal device cells identification latch
+    unfolding lentRefusal
+    lent-device h = rw (← ed, h)
+
+    module _ (h : not d ≡ false) where
+      pub lent-cells : (length cells ≡ row .cells → ⊥) → 2 ≡ lentRefusal device cells identification latch
+      unfolding lentRefusal
+      lent-cells a = rw (← ed, h, cells-at, ne-eqb (length cells) (row .cells) a)
+
+      module _ (a : length cells ≡ row .cells) where
+        pub lent-page : (length identification ≡ row .page → ⊥) → 3 ≡ lentRefusal device cells identification latch
+        unfolding lentRefusal
+        lent-page b = rw (← ed, h, cells-at, eq-eqb (length cells) (row .cells) a, page-at, ne-eqb (length identification) (row .page) b)
+
+        pub lent-latch : length identification ≡ row .page → (length latch ≡ row .page + row .page → ⊥) → 4 ≡ lentRefusal device cells identification latch
+        unfolding lentRefusal
+        lent-latch b c = rw (← ed, h, cells-at, eq-eqb (length cells) (row .cells) a, page-at, eq-eqb (length identification) (row .page) b, ne-eqb (length latch) (row .page + row .page) c)
+
+        pub lent-good : length identification ≡ row .page → length latch ≡ row .page + row .page → 0 ≡ lentRefusal device cells identification latch
+        unfolding lentRefusal
+        lent-good b c = rw (← ed, h, cells-at, eq-eqb (length cells) (row .cells) a, page-at, eq-eqb (length identification) (row .page) b, eq-eqb (length latch) (row .page + row .page) c)
+
+pub lent-fine : (device : ℕ) (s : State) (cells identification latch : List ℕ) → lentRefusal device cells identification latch ≡ 0 → Lent (rowOf device) (worldOf s cells identification latch)
+unfolding lentRefusal
+lent-fine device s cells identification latch =
+    let P : ℕ → Type 0 = λ (n : ℕ). n ≡ 0 → Lent (rowOf device) (worldOf s cells identification latch) in
+    let row = rowOf device in
+    if-elim P (not (isDevice device)) (λ _ e. absurd (omega arith))
+    (λ _. if-elim P (not (eqb (length cells) (row .cells))) (λ _ e. absurd (omega arith))
+    (λ a. if-elim P (not (eqb (length identification) (row .page))) (λ _ e. absurd (omega arith))
+    (λ b. if-elim P (not (eqb (length latch) (row .page + row .page))) (λ _ e. absurd (omega arith))
+    (λ c e.
+    record {
+      cells = eqb-true (length cells) (row .cells) (not-false (eqb (length cells) (row .cells)) a);
+      identification = eqb-true (length identification) (row .page) (not-false (eqb (length identification) (row .page)) b);
+      latch = eqb-true (length latch) (row .page + row .page) (not-false (eqb (length latch) (row .page + row .page)) c);
+    }))))
+
+-- The world.
+module _ (device : ℕ) (w : World) (n : ℕ) (en : n ≡ lentRefusal device (w .cells) (w .identification) (w .latch)) where
+  pub world-lent : (n ≡ 0 → ⊥) → n ≡ worldRefusal device w
+  unfolding worldRefusal
+  world-lent z = rw (← en, ne-eqb n 0 z)
+
+  module _ (z : n ≡ 0) (row : Row) (er : row ≡ rowOf device) (b : Bool) (eb : b ≡ isSound row (w .state) (w .latch)) where
+    sound-at : isSound (rowOf device) (w .state) (w .latch) ≡ b
+    sound-at = ap (λ (x : Row). isSound x (w .state) (w .latch)) (sym er) ∙ sym eb
+
+    pub world-unsound : not b ≡ true → 5 ≡ worldRefusal device w
+    unfolding worldRefusal
+    world-unsound h = rw (← en, z, sound-at, h)
+
+    pub world-good : not b ≡ false → 0 ≡ worldRefusal device w
+    unfolding worldRefusal
+    world-good h = rw (← en, z, sound-at, h)
+
+pub fine : (device : ℕ) (w : World) → worldRefusal device w ≡ 0 → Sound (rowOf device) w × Lent (rowOf device) w
+unfolding worldRefusal
+fine device w =
+    let n = lentRefusal device (w .cells) (w .identification) (w .latch) in
+    let P : ℕ → Type 0 = λ (m : ℕ). m ≡ 0 → Sound (rowOf device) w × Lent (rowOf device) w in
+    if-elim P (not (eqb n 0)) (λ h e. absurd (true≢false (sym h ∙ ap not (eq-eqb n 0 e))))
+    (λ h. if-elim P (not (isSound (rowOf device) (w .state) (w .latch))) (λ _ e. absurd (omega arith))
+    (λ b e. (reads (rowOf device) w .0 (not-false (isSound (rowOf device) (w .state) (w .latch)) b), lent-fine device (w .state) (w .cells) (w .identification) (w .latch) (eqb-true n 0 (not-false (eqb n 0) h)))))
+
+-- The same, of the row that was looked up.
+pub fine-row : (device : ℕ) (w : World) (row : Row) (n : ℕ) → row ≡ rowOf device → n ≡ worldRefusal device w → n ≡ 0 → Widths row × Sound row w × Lent row w
+fine-row device w row n er en z =
+    let f = fine device w (sym en ∙ z) in
+    (row-widths device row er, subst (λ (x : Row). Sound x w) (sym er) (f .0), subst (λ (x : Row). Lent x w) (sym er) (f .1))
+
+-- Preparing.
+module _ (device : ℕ) (s : State) (cells identification latch : List ℕ) (n : ℕ) (en : n ≡ lentRefusal device cells identification latch) (es : s ≡ preparedState) where
+  pub prepare-refused : (n ≡ 0 → ⊥) → preparedAs n (worldOf s cells identification latch) ≡ prepareOutcome device cells identification latch
+  unfolding prepareOutcome
+  prepare-refused z = rw (← en, ne-eqb n 0 z, es)
+
+  pub prepare-done : (row : Row) (c i l : List ℕ) → n ≡ 0 → row ≡ rowOf device → c ≡ replicate (length cells) 0xFF → i ≡ code row ++ replicate (row .page - length (code row)) 0xFF → l ≡ replicate (length latch) 0
+      → preparedAs 0 (worldOf s c i l) ≡ prepareOutcome device cells identification latch
+  unfolding prepareOutcome prepared
+  prepare-done row c i l z er ec ei el =
+      let k = lent-fine device s cells identification latch (sym en ∙ z) in
+      let twice : length latch ≡ rowOf device .page * 2 = omega (arith, k .latch) in
+      rw (← en, z, es, ec, ei, el, er, k .cells, twice)
+
+-- An event.
+module _ (device : ℕ) (w : World) (e : Event) (n : ℕ) (en : n ≡ worldRefusal device w) where
+  pub event-refused : (n ≡ 0 → ⊥) → repliedAs n 2 w ≡ eventOutcome device w e
+  unfolding eventOutcome
+  event-refused z = rw (← en, ne-eqb n 0 z, ne-eqb n 0 z)
+
+  module _ (z : n ≡ 0) (m : ℕ) (em : m ≡ refusal e (w .state)) where
+    pub event-power : (m ≡ 0 → ⊥) → repliedAs m 2 w ≡ eventOutcome device w e
+    unfolding eventOutcome
+    event-power h = rw (← en, z, ← em, ne-eqb m 0 h)
+
+    pub event-done : (row : Row) (u : World) (a : ℕ) → m ≡ 0 → row ≡ rowOf device → u ≡ step row e w → a ≡ answerByte (answer (u .state)) → repliedAs 0 a u ≡ eventOutcome device w e
+    unfolding eventOutcome
+    event-done row u a h er eu ea = rw (← en, z, ← em, h, ea, eu, er)
+
+-- A trace.
+module _ (device : ℕ) (w : World) (t a : List ℕ) (limit n : ℕ) (en : n ≡ worldRefusal device w) where
+  pub run-refused : (n ≡ 0 → ⊥) → progressOf n 0 0 w a ≡ runOutcome device w t a limit
+  unfolding runOutcome
+  run-refused z = rw (← en, ne-eqb n 0 z)
+
+  pub run-done : (row : Row) (q : Progress) → n ≡ 0 → row ≡ rowOf device → q ≡ run limit row t (progressOf 0 0 0 w a) → q ≡ runOutcome device w t a limit
+  unfolding runOutcome
+  run-done row q z er eq = eq ∙ rw (← en, z, er)
+
+-- The pages.
+module _ (device : ℕ) (row : Row) (d : Bool) (er : row ≡ rowOf device) (ed : d ≡ isDevice device) where
+  module _ (cells : List ℕ) (address : ℕ) where
+    pub cell-device : not d ≡ true → shownAs 1 [] ≡ cellPageOutcome device cells address
+    unfolding cellPageOutcome
+    cell-device h = rw (← ed, h)
+
+    module _ (h : not d ≡ false) where
+      pub cell-length : (length cells ≡ row .cells → ⊥) → shownAs 2 [] ≡ cellPageOutcome device cells address
+      unfolding cellPageOutcome
+      cell-length a = rw (← ed, h, ← er, ne-eqb (length cells) (row .cells) a)
+
+      module _ (a : length cells ≡ row .cells) where
+        pub cell-past : row .cells ≤ address → shownAs 13 [] ≡ cellPageOutcome device cells address
+        unfolding cellPageOutcome
+        cell-past b = rw (← ed, h, ← er, eq-eqb (length cells) (row .cells) a, le-leb (row .cells) address b)
+
+        pub cell-shown : (p : ℕ) → address < row .cells → p ≡ address % row .page → shownAs 0 (take (address - p + row .page - (address - p)) (drop (address - p) cells)) ≡ cellPageOutcome device cells address
+        unfolding cellPageOutcome
+        cell-shown p b ep = rw (← ed, h, ← er, eq-eqb (length cells) (row .cells) a, lt-leb (row .cells) address b, add-sub-cancel-left (address - p) (row .page), ep)
+
+  module _ (identification : List ℕ) where
+    pub page-device : not d ≡ true → shownAs 1 [] ≡ identificationPageOutcome device identification
+    unfolding identificationPageOutcome
+    page-device h = rw (← ed, h)
+
+    pub page-length : not d ≡ false → (length identification ≡ row .page → ⊥) → shownAs 3 [] ≡ identificationPageOutcome device identification
+    unfolding identificationPageOutcome
+    page-length h a = rw (← ed, h, ← er, ne-eqb (length identification) (row .page) a)
+
+    pub page-shown : not d ≡ false → length identification ≡ row .page → shownAs 0 identification ≡ identificationPageOutcome device identification
+    unfolding identificationPageOutcome
+    page-shown h a = rw (← ed, h, ← er, eq-eqb (length identification) (row .page) a)
+
+-- The page of an address lies within the cells.
+pub page-inside : {row : Row} → Widths row → (a p : ℕ) → p ≡ a % row .page → a < row .cells → a - p + row .page ≤ row .cells
+page-inside {row} v a p e h = rw e (page-room v (a - a % row .page) (start-aligned row a) (omega (arith, h, mod-le a (row .page))))
