@@ -1,4 +1,2 @@
 pub mod Calling
-pub mod Reading
-pub mod Running
-pub mod Short
+pub mod Unique

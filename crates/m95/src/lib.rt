@@ -7,12 +7,6 @@ ghost use Rattle.rules.specs.World.{worldOf};
 ghost use Rattle.rules.specs.Device.{preparedState};
 ghost use Rattle.rules.specs.Trace.{progressOf};
 ghost use Rattle.rules.specs.Call.{lentRefusal, worldRefusal, preparedAs, prepareOutcome, repliedAs, eventOutcome, runOutcome, shownAs, cellPageOutcome, identificationPageOutcome};
-
-pub mod quick;
-pub mod records;
-pub mod trace;
-
-use records::Ran;
 use rules::Command;
 use rules::Cycle;
 use rules::Event;
@@ -27,6 +21,7 @@ use rules::Place;
 use rules::Registers;
 use rules::Selection;
 use rules::State;
+use traces::records::Ran;
 
 // What preparing gives back: its number, and the prepared state.
 pub struct Prepared {
@@ -223,7 +218,7 @@ pub fn run(
         };
     }
     let row = tables::row_of(device);
-    records::run_records(row, s, cells, identification, latch, trace, answers, limit)
+    traces::records::run_records(row, s, cells, identification, latch, trace, answers, limit)
 }
 
 // The cell page that holds an address: a part of the cells, and its number.

@@ -1,0 +1,52 @@
+use borrow.Author.Needs.{needs}
+use Rattle.caller.proofs.prepares.Statement.{statement}
+use Rattle.caller.proofs.prepares.Tie as tie
+
+slice-aggregate-prepare : tie.Need-slice-aggregate-prepare
+slice-aggregate-prepare c = search needs
+
+slice-aggregate-prepare-2 : tie.Need-slice-aggregate-prepare-2
+slice-aggregate-prepare-2 c = search needs
+
+slice-aggregate-prepare-3 : tie.Need-slice-aggregate-prepare-3
+slice-aggregate-prepare-3 c = search needs
+
+prepare-requires : tie.Need-prepare-requires
+prepare-requires c κs = search needs
+
+expect-requires : tie.Need-expect-requires
+expect-requires c κs = ?
+
+slice-aggregate-prepare-4 : tie.Need-slice-aggregate-prepare-4
+slice-aggregate-prepare-4 c = search needs
+
+slice-aggregate-prepare-5 : tie.Need-slice-aggregate-prepare-5
+slice-aggregate-prepare-5 c = search needs
+
+slice-aggregate-prepare-6 : tie.Need-slice-aggregate-prepare-6
+slice-aggregate-prepare-6 c = search needs
+
+prepare-requires-2 : tie.Need-prepare-requires-2
+prepare-requires-2 c κs = search needs
+
+expect-requires-2 : tie.Need-expect-requires-2
+expect-requires-2 c κs = ?
+
+returns : tie.Need-returns
+returns c = search needs
+
+pub prepares-spec : {M : Type 1} → statement M
+prepares-spec =
+    tie.close
+    (tie.spec
+    slice-aggregate-prepare
+    slice-aggregate-prepare-2
+    slice-aggregate-prepare-3
+    prepare-requires
+    expect-requires
+    slice-aggregate-prepare-4
+    slice-aggregate-prepare-5
+    slice-aggregate-prepare-6
+    prepare-requires-2
+    expect-requires-2
+    returns)

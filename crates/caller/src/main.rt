@@ -1,0 +1,75 @@
+// Calls each public call of the library on good and bad input, and holds its answers. Every `expect` is proved from the contracts
+// alone, so a caller who knows nothing else can use them.
+
+use rules::Event;
+
+// Preparing an M95040 gives 0, and a device that is not there 1.
+fn prepares() {
+    let mut cells = [0u8; 512];
+    let mut identification = [0u8; 16];
+    let mut latch = [0u8; 32];
+    let good = m95::prepare(1, &mut cells, &mut identification, &mut latch);
+    check::expect(good.number == 0);
+    let bad = m95::prepare(9, &mut cells, &mut identification, &mut latch);
+    check::expect(bad.number == 1);
+}
+
+// A page of a device that is not there is refused with 1.
+fn shows() {
+    let cells = [0u8; 512];
+    let identification = [0u8; 16];
+    let mut number: usize = 0;
+    let page = m95::cell_page(1, &cells, 512, &mut number);
+    check::expect(number == 13);
+    check::expect(page.len() == 0);
+    let other = m95::identification_page(0, &identification, &mut number);
+    check::expect(number == 1);
+    check::expect(other.len() == 0);
+}
+
+// An event and a trace on a prepared device, and on buffers of a wrong length.
+fn runs() {
+    let mut cells = [0xFFu8; 512];
+    let mut identification = [0xFFu8; 16];
+    let mut latch = [0u8; 32];
+    let trace = [3u8, 0, 1, 0, 4];
+    let mut answers = [9u8; 1];
+    let state = m95::prepared_state();
+    let reply = m95::event(
+        1,
+        state,
+        &mut cells,
+        &mut identification,
+        &mut latch,
+        Event::Select(false),
+    );
+    check::expect(reply.number == 0);
+    let refused = m95::event(
+        2,
+        state,
+        &mut cells,
+        &mut identification,
+        &mut latch,
+        Event::Power,
+    );
+    check::expect(refused.number == 2);
+    check::expect(refused.answer == 2);
+    let ran = m95::run(
+        2,
+        state,
+        &mut cells,
+        &mut identification,
+        &mut latch,
+        &trace,
+        &mut answers,
+        1,
+    );
+    check::expect(ran.number == 2);
+    check::expect(ran.done == 0);
+}
+
+fn main() {
+    prepares();
+    shows();
+    runs();
+}

@@ -1,0 +1,27 @@
+-- Any two outcomes that a public call's contract allows are equal: `unique-prepare`, `unique-event`, `unique-run`, `unique-cell-page`, `unique-identification-page`.
+use Prim.Native.Nat.{ℕ}
+use mathlib.Core.Path.{_≡_, sym, _∙_}
+use mathlib.Core.List.{List}
+use Rattle.rules.specs.declared.Event.{Event}
+use Rattle.rules.specs.World.{World}
+use Rattle.rules.specs.Trace.{Progress}
+use Rattle.rules.specs.Call.{Prepared, prepareOutcome, Replied, eventOutcome, runOutcome, Shown, cellPageOutcome, identificationPageOutcome}
+
+-- What a contract of the form "the outcome is this function of the input" allows is one outcome.
+unique : {A : Type 0} {x y z : A} → x ≡ z → y ≡ z → x ≡ y
+unique e f = e ∙ sym f
+
+pub unique-prepare : {x y : Prepared} (device : ℕ) (cells identification latch : List ℕ) → x ≡ prepareOutcome device cells identification latch → y ≡ prepareOutcome device cells identification latch → x ≡ y
+unique-prepare device cells identification latch = unique
+
+pub unique-event : {x y : Replied} (device : ℕ) (w : World) (e : Event) → x ≡ eventOutcome device w e → y ≡ eventOutcome device w e → x ≡ y
+unique-event device w e = unique
+
+pub unique-run : {x y : Progress} (device : ℕ) (w : World) (trace answers : List ℕ) (limit : ℕ) → x ≡ runOutcome device w trace answers limit → y ≡ runOutcome device w trace answers limit → x ≡ y
+unique-run device w trace answers limit = unique
+
+pub unique-cell-page : {x y : Shown} (device : ℕ) (cells : List ℕ) (address : ℕ) → x ≡ cellPageOutcome device cells address → y ≡ cellPageOutcome device cells address → x ≡ y
+unique-cell-page device cells address = unique
+
+pub unique-identification-page : {x y : Shown} (device : ℕ) (identification : List ℕ) → x ≡ identificationPageOutcome device identification → y ≡ identificationPageOutcome device identification → x ≡ y
+unique-identification-page device identification = unique

@@ -1,0 +1,164 @@
+-- The short ways: that a record which is sorted to one is what it seems, and that the way is the rules' step.
+use Prim.Native.Nat.{ℕ, _+_, _-_, _*_, _≤_, _<_}
+use mathlib.Core.Path.{_≡_, refl, sym, ap, _∙_, subst}
+use mathlib.Core.Bool.{Bool, true, false, not, _&&_, _||_, and-false}
+use mathlib.Core.List.{List, []}
+use native.Mathlib.Omega.{arith}
+use lib.ListN.{getD, length}
+use lib.Dec.{eqb, leb, ltb}
+use borrow.Author.Tests.{eqb-true, eqb-false, eq-eqb, ne-eqb, le-ltb, not-true, not-false}
+use Rattle.rules.specs.declared.Row.{Row}
+use Rattle.rules.specs.declared.Source.{Source}
+use Rattle.rules.specs.declared.Output.{Output}
+use Rattle.rules.specs.declared.State.{State}
+use Rattle.rules.specs.declared.Event.{Event}
+use Rattle.rules.specs.World.{if_then_else_, number, withPins, withSelection, worldOf}
+use Rattle.rules.specs.Receive.{latchAfter, value, isByte, risen, risenLatch}
+use Rattle.rules.specs.Send.{going, sourceOf, isSending, shownAddress, outputOf, outputAfter, fallen}
+use Rattle.rules.specs.Event.{pinsAfter, decodes, react, settled, step, refusal}
+use Rattle.rules.specs.Trace.{two, lengthOf, pinEvent, eventAt, badPin, recordRefusal}
+use Rattle.rules.proofs.Choice.{if-elim, if-no, and-left, and-right, and-both, clash}
+use Rattle.chip.specs.Alone.{stepAlone}
+use Rattle.traces.specs.declared.quick.Usual.{Usual}
+use Rattle.traces.specs.Quick.{IsPin, RiseSorted, FallSorted, Sorted}
+
+-- Sorting.
+pub pin-found : (t : List ℕ) (at a b : ℕ) → 5 ≤ length t - at → a ≡ two t at → b ≡ two t (at + 2) → (eqb a 3 && eqb b 1) ≡ true → IsPin t at (getD t (at + 4) 0)
+pin-found t at a b h ea eb e =
+    record {
+      whole = h;
+      size = sym ea ∙ eqb-true a 3 (and-left (eqb a 3) (eqb b 1) e);
+      kind = sym eb ∙ eqb-true b 1 (and-right (eqb a 3) (eqb b 1) e);
+      byte = refl;
+    }
+
+pub pin-is : {t : List ℕ} {at : ℕ} (n p : ℕ) → n ≡ p → p ≤ 9 → (n ≤ 9 → IsPin t at n) → IsPin t at p
+pin-is {t} {at} n p e h f = subst (IsPin t at) e (f (omega arith))
+
+module _ (row : Row) (s : State) (t : List ℕ) (at : ℕ) (room : Bool) (hr : not room ≡ false) where
+  pub sorted-fall : (r : Usual) → IsPin t at 0 → FallSorted row s r → Sorted row s t at room r
+  sorted-fall Usual.Other p h = tt
+  sorted-fall (Usual.Data v) p h = absurd h
+  sorted-fall Usual.Bit p h = absurd h
+  sorted-fall Usual.Still p h = (not-false room hr, p, h)
+  sorted-fall Usual.Shift p h = (not-false room hr, p, h)
+
+  pub sorted-rise : (r : Usual) → IsPin t at 1 → RiseSorted s r → Sorted row s t at room r
+  sorted-rise Usual.Other p h = tt
+  sorted-rise (Usual.Data v) p h = absurd h
+  sorted-rise Usual.Bit p h = (not-false room hr, p, h)
+  sorted-rise Usual.Still p h = absurd h
+  sorted-rise Usual.Shift p h = absurd h
+
+  pub sorted-data : (v : Bool) → IsPin t at (2 + number v) → Sorted row s t at room (Usual.Data v)
+  sorted-data v p = (not-false room hr, p)
+
+pub rise-sorted : (s : State) (d : Bool) → d ≡ decodes s → (d && not (s .pins .c) && not (eqb (s .input .bits) 7)) ≡ true → RiseSorted s Usual.Bit
+rise-sorted s d ed h =
+    let l = and-left (d && not (s .pins .c)) (not (eqb (s .input .bits) 7)) h in (
+      sym ed ∙ and-left d (not (s .pins .c)) l,
+      not-true (s .pins .c) (and-right d (not (s .pins .c)) l),
+      eqb-false (s .input .bits) 7 (not-true (eqb (s .input .bits) 7) (and-right (d && not (s .pins .c)) (not (eqb (s .input .bits) 7)) h)),
+    )
+
+module _ (row : Row) (s : State) (d sending : Bool) (ed : d ≡ decodes s) (es : sending ≡ isSending row s) (hc : not (s .pins .c) ≡ false) where
+  both-at : (b : Bool) → (d && sending) ≡ b → (decodes s && isSending row s) ≡ b
+  both-at b h = ap (λ (x : Bool). x && isSending row s) (sym ed) ∙ ap (λ (x : Bool). d && x) (sym es) ∙ h
+
+  pub fall-still : not (d && sending) ≡ true → FallSorted row s Usual.Still
+  fall-still h = (not-false (s .pins .c) hc, both-at false (not-true (d && sending) h))
+
+  pub fall-shift : (x y : Source) → not (d && sending) ≡ false → (s .input .bits ≡ 0 → ⊥) → x ≡ sourceOf s → x ≡ y → going row y (s .place .address) .past ≡ false → FallSorted row s Usual.Shift
+  fall-shift x y h z ex ey p =
+      (not-false (s .pins .c) hc, both-at true (not-false (d && sending) h), z, ap (λ (u : Source). going row u (s .place .address) .past) (sym ex ∙ ey) ∙ p)
+
+-- The ways.
+module _ (row : Row) (s : State) where
+  pub data-way : (b : Bool) → (s .selection .selected ≡ true → s .pins .c ≡ false → s .selection .held ≡ not (s .pins .hold))
+      → withPins (pinsAfter (Event.Data b) (s .pins)) s ≡ stepAlone row (Event.Data b) s
+  unfolding step react
+  data-way b h =
+      if-elim (λ (held : Bool). withPins (pinsAfter (Event.Data b) (s .pins)) s ≡ withPins (pinsAfter (Event.Data b) (s .pins)) (withSelection (s .place .address) (record { selected = s .selection .selected; held = held; seen = s .selection .seen }) (s .input) (s .command) (s .output) s))
+      (s .selection .selected && not (s .pins .c))
+      (λ e. rw (← h (and-left (s .selection .selected) (not (s .pins .c)) e) (not-true (s .pins .c) (and-right (s .selection .selected) (not (s .pins .c)) e))))
+      (λ _. refl)
+
+  pub bit-way : (v : ℕ) → decodes s ≡ true → s .pins .c ≡ false → (s .input .bits ≡ 7 → ⊥) → v ≡ s .input .value * 2 + number (s .pins .d)
+      → withPins (pinsAfter (Event.Clock true) (s .pins)) (withSelection (s .place .address) (s .selection) (record { bits = s .input .bits + 1; value = v; bytes = s .input .bytes; last = s .input .last }) (s .command) (s .output) s) ≡ stepAlone row (Event.Clock true) s
+  unfolding step react risen
+  bit-way v d c z e = rw (d, c, ne-eqb (s .input .bits) 7 z, e) (held-kept (s .selection .selected))
+    where
+      held-kept : (on : Bool) → withPins (pinsAfter (Event.Clock true) (s .pins)) (withSelection (s .place .address) (s .selection) (record { bits = s .input .bits + 1; value = s .input .value * 2 + number (s .pins .d); bytes = s .input .bytes; last = s .input .last }) (s .command) (s .output) s)
+          ≡ withPins (pinsAfter (Event.Clock true) (s .pins)) (withSelection (s .place .address) (record { selected = s .selection .selected; held = if on && false then not (s .pins .hold) else s .selection .held; seen = s .selection .seen }) (record { bits = s .input .bits + 1; value = s .input .value * 2 + number (s .pins .d); bytes = s .input .bytes; last = s .input .last }) (s .command) (s .output) s)
+      held-kept true = refl
+      held-kept false = refl
+
+  with-clock : (a b x : Bool) → s .pins .c ≡ true → (a && b) ≡ x → (a && s .pins .c && b) ≡ x
+  with-clock a b x c h = go (s .pins .c) c
+    where
+      go : (k : Bool) → k ≡ true → (a && k && b) ≡ x
+      go true e = left a h
+        where
+          left : (a : Bool) → (a && b) ≡ x → (a && true && b) ≡ x
+          left true g = g
+          left false g = g
+      go false e = clash (sym e)
+
+  held-eq : (on h held : Bool) → (on && h || not on && held) ≡ (if on && true then h else held)
+  held-eq true true held = refl
+  held-eq true false held = refl
+  held-eq false h held = refl
+
+  pub still-way : (cells identification latch : List ℕ) → s .pins .c ≡ true → (decodes s && isSending row s) ≡ false
+      → withPins (pinsAfter (Event.Clock false) (s .pins)) (withSelection (s .place .address) (record { selected = s .selection .selected; held = s .selection .selected && not (s .pins .hold) || not (s .selection .selected) && s .selection .held; seen = s .selection .seen }) (s .input) (s .command) (s .output) s)
+      ≡ step row (Event.Clock false) (worldOf s cells identification latch) .state
+  unfolding step react fallen
+  still-way cells identification latch c h =
+      let f = with-clock (decodes s) (isSending row s) false c h in
+      let W : Bool → State = λ (x : Bool). withPins (pinsAfter (Event.Clock false) (s .pins)) (withSelection (s .place .address) (record { selected = s .selection .selected; held = x; seen = s .selection .seen }) (s .input) (s .command) (s .output) s) in
+      ap W (held-eq (s .selection .selected) (not (s .pins .hold)) (s .selection .held)) ∙ rw f
+
+  pub shift-way : (cells identification latch : List ℕ) (o : Output) → s .pins .c ≡ true → (decodes s && isSending row s) ≡ true → (s .input .bits ≡ 0 → ⊥) → going row (sourceOf s) (s .place .address) .past ≡ false
+      → o ≡ outputOf (s .output .sending) (s .input .bits)
+      → withPins (pinsAfter (Event.Clock false) (s .pins)) (withSelection (s .place .address) (record { selected = s .selection .selected; held = not (s .pins .hold); seen = s .selection .seen }) (s .input) (s .command) o s) ≡ step row (Event.Clock false) (worldOf s cells identification latch) .state
+  unfolding step react fallen shownAddress outputAfter
+  shift-way cells identification latch o c h z p eo =
+      let f = with-clock (decodes s) (isSending row s) true c h in
+      let on : s .selection .selected ≡ true = and-left (s .selection .selected) (not (s .selection .held)) (and-left (decodes s) (isSending row s) h) in
+      let k : (s .selection .selected && true) ≡ true = and-both (s .selection .selected) true on refl in
+      rw (eo, f, ne-eqb (s .input .bits) 0 z, p, k)
+
+-- They touch no list.
+module _ (row : Row) (s r : State) (cells identification latch : List ℕ) where
+  pub bit-alone : (s .input .bits ≡ 7 → ⊥) → r ≡ stepAlone row (Event.Clock true) s → worldOf r cells identification latch ≡ step row (Event.Clock true) (worldOf s cells identification latch)
+  unfolding step react risenLatch
+  bit-alone z e =
+      let d = decodes s && not (s .pins .c) in
+      let none : isByte d s ≡ false = rw (ne-eqb (s .input .bits) 7 z) (and-false d) in
+      ap (λ (x : State). worldOf x cells identification latch) e
+      ∙ ap (worldOf (stepAlone row (Event.Clock true) s) cells identification) (sym (if-no (isByte d s) (latchAfter row (value s) s latch) latch none))
+
+  pub still-alone : s .pins .c ≡ true → (decodes s && isSending row s) ≡ false → r ≡ stepAlone row (Event.Clock false) s
+      → worldOf r cells identification latch ≡ step row (Event.Clock false) (worldOf s cells identification latch)
+  unfolding step react
+  still-alone c h e = ap (λ (x : State). worldOf x cells identification latch) (e ∙ sym (still-way row s [] [] [] c h) ∙ still-way row s cells identification latch c h)
+
+  pub shift-alone : s .pins .c ≡ true → (decodes s && isSending row s) ≡ true → (s .input .bits ≡ 0 → ⊥) → going row (sourceOf s) (s .place .address) .past ≡ false
+      → r ≡ stepAlone row (Event.Clock false) s → worldOf r cells identification latch ≡ step row (Event.Clock false) (worldOf s cells identification latch)
+  unfolding step react
+  shift-alone c h z p e =
+      ap (λ (x : State). worldOf x cells identification latch)
+      (e ∙ sym (shift-way row s [] [] [] (outputOf (s .output .sending) (s .input .bits)) c h z p refl) ∙ shift-way row s cells identification latch (outputOf (s .output .sending) (s .input .bits)) c h z p refl)
+
+-- A whole pin record with room is done, and takes five bytes.
+pub pin-done : {t : List ℕ} {at p : ℕ} (s : State) → IsPin t at p → p ≤ 9 → refusal (pinEvent p) s ≡ 0 → (recordRefusal t at false s ≡ 0) × (pinEvent p ≡ eventAt t at)
+unfolding recordRefusal eventAt
+pin-done {t} {at} {p} s h le e =
+    let bad : ltb 9 (getD t (at + 4) 0) ≡ false = le-ltb 9 (getD t (at + 4) 0) (omega (arith, h .byte)) in
+    let four : ltb (length t - at) 4 ≡ false = le-ltb (length t - at) 4 (omega (arith, h .whole)) in
+    let five : ltb (length t - at) 5 ≡ false = le-ltb (length t - at) 5 (h .whole) in
+    (rw (four, h .size, h .kind, five, bad, h .byte) e, rw (h .kind, h .byte))
+
+-- What was sorted, once its way is known.
+pub known-way : (row : Row) (s : State) (t : List ℕ) (at : ℕ) (room : Bool) (x y : Usual) → x ≡ y → Sorted row s t at room x → Sorted row s t at room y
+known-way row s t at room x y e h = subst (Sorted row s t at room) e h
