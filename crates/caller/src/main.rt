@@ -27,13 +27,11 @@ fn shows() {
     check::expect(other.len() == 0);
 }
 
-// An event and a trace on a prepared device, and on buffers of a wrong length.
-fn runs() {
+// An event on a prepared device, and on none.
+fn replies() {
     let mut cells = [0xFFu8; 512];
     let mut identification = [0xFFu8; 16];
     let mut latch = [0u8; 32];
-    let trace = [3u8, 0, 1, 0, 4];
-    let mut answers = [9u8; 1];
     let state = m95::prepared_state();
     let reply = m95::event(
         1,
@@ -44,32 +42,57 @@ fn runs() {
         Event::Select(false),
     );
     check::expect(reply.number == 0);
+    check::expect(reply.answer == 2);
     let refused = m95::event(
-        2,
+        0,
         state,
         &mut cells,
         &mut identification,
         &mut latch,
         Event::Power,
     );
-    check::expect(refused.number == 2);
+    check::expect(refused.number == 1);
     check::expect(refused.answer == 2);
+}
+
+// A trace of one record on a prepared device, and on none.
+fn runs() {
+    let mut cells = [0xFFu8; 512];
+    let mut identification = [0xFFu8; 16];
+    let mut latch = [0u8; 32];
+    let trace = [3u8, 0, 1, 0, 4];
+    let mut answers = [9u8; 1];
+    let state = m95::prepared_state();
     let ran = m95::run(
-        2,
+        1,
         state,
         &mut cells,
         &mut identification,
         &mut latch,
         &trace,
         &mut answers,
-        1,
+        5,
     );
-    check::expect(ran.number == 2);
-    check::expect(ran.done == 0);
+    check::expect(ran.number == 0);
+    check::expect(ran.done == 1);
+    check::expect(ran.taken == 5);
+    let refused = m95::run(
+        9,
+        state,
+        &mut cells,
+        &mut identification,
+        &mut latch,
+        &trace,
+        &mut answers,
+        5,
+    );
+    check::expect(refused.number == 1);
+    check::expect(refused.done == 0);
 }
 
 fn main() {
     prepares();
     shows();
+    replies();
     runs();
 }

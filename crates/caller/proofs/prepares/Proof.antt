@@ -1,3 +1,9 @@
+use Rattle.rules.specs.Trace.{Progress, eventAt, recordRefusal, turn}
+use Rattle.rules.specs.Event.{react, step}
+use Rattle.rules.specs.Sound.{clauses, isSound}
+use Rattle.rules.specs.Call.{Prepared, Replied, Shown, lentRefusal, worldRefusal, prepareOutcome, eventOutcome, runOutcome, cellPageOutcome, identificationPageOutcome}
+use mathlib.Core.Path.{ap, _∙_}
+use borrow.Author.Tests.{eq-eqb}
 use borrow.Author.Needs.{needs}
 use Rattle.caller.proofs.prepares.Statement.{statement}
 use Rattle.caller.proofs.prepares.Tie as tie
@@ -15,7 +21,8 @@ prepare-requires : tie.Need-prepare-requires
 prepare-requires c κs = search needs
 
 expect-requires : tie.Need-expect-requires
-expect-requires c κs = ?
+unfolding lentRefusal worldRefusal prepareOutcome eventOutcome runOutcome cellPageOutcome identificationPageOutcome isSound clauses step react turn recordRefusal eventAt
+expect-requires c κs = eq-eqb _ 0 (ap (λ (x : Prepared). x .number) (c .before .before .before .before .prepare .ensures))
 
 slice-aggregate-prepare-4 : tie.Need-slice-aggregate-prepare-4
 slice-aggregate-prepare-4 c = search needs
@@ -30,7 +37,8 @@ prepare-requires-2 : tie.Need-prepare-requires-2
 prepare-requires-2 c κs = search needs
 
 expect-requires-2 : tie.Need-expect-requires-2
-expect-requires-2 c κs = ?
+unfolding lentRefusal worldRefusal prepareOutcome eventOutcome runOutcome cellPageOutcome identificationPageOutcome isSound clauses step react turn recordRefusal eventAt
+expect-requires-2 c κs = eq-eqb _ 1 (ap (λ (x : Prepared). x .number) (c .before .before .before .before .prepare2 .ensures))
 
 returns : tie.Need-returns
 returns c = search needs

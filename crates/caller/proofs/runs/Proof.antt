@@ -1,4 +1,101 @@
+use lib.ListN.{replicate}
+use mathlib.Core.List.{[], _∷_}
+use mathlib.Core.Bool.{true, false}
+use Rattle.rules.specs.declared.Event.{Event}
+use Rattle.rules.specs.declared.State.{State}
+use Rattle.rules.specs.World.{worldOf}
+use Rattle.rules.specs.Trace.{Progress, eventAt, recordRefusal, turn}
+use Rattle.rules.specs.Event.{react, step}
+use Rattle.rules.specs.Sound.{clauses, isSound}
+use Rattle.rules.specs.Call.{Prepared, Replied, Shown, lentRefusal, worldRefusal, prepareOutcome, eventOutcome, runOutcome, cellPageOutcome, identificationPageOutcome}
+use mathlib.Core.Path.{ap, _∙_}
+use borrow.Author.Tests.{eq-eqb}
+use borrow.Author.Needs.{needs}
 use Rattle.caller.proofs.runs.Statement.{statement}
+use Rattle.caller.proofs.runs.Tie as tie
+
+prepared-state-requires : tie.Need-prepared-state-requires
+prepared-state-requires c κs = search needs
+
+slice-aggregate-run : tie.Need-slice-aggregate-run
+slice-aggregate-run c = search needs
+
+slice-aggregate-run-2 : tie.Need-slice-aggregate-run-2
+slice-aggregate-run-2 c = search needs
+
+slice-aggregate-run-3 : tie.Need-slice-aggregate-run-3
+slice-aggregate-run-3 c = search needs
+
+slice-aggregate-run-4 : tie.Need-slice-aggregate-run-4
+slice-aggregate-run-4 c = search needs
+
+slice-aggregate-run-5 : tie.Need-slice-aggregate-run-5
+slice-aggregate-run-5 c = search needs
+
+run-requires : tie.Need-run-requires
+run-requires c κs = search needs
+
+expect-requires : tie.Need-expect-requires
+unfolding lentRefusal worldRefusal prepareOutcome eventOutcome runOutcome cellPageOutcome identificationPageOutcome isSound clauses step react turn recordRefusal eventAt
+expect-requires c κs = eq-eqb _ 0 (ap (λ (x : Progress). x .number) (c .before .before .before .before .before .run .ensures) ∙ ap (λ (s : State). runOutcome 1 (worldOf s (replicate 512 0xFF) (replicate 16 0xFF) (replicate 32 0)) (3 ∷ 0 ∷ 1 ∷ 0 ∷ 4 ∷ []) (9 ∷ []) 5 .number) (c .before .before .before .before .before .before .before .before .before .before .before .prepared-state .ensures))
+
+expect-requires-2 : tie.Need-expect-requires-2
+unfolding lentRefusal worldRefusal prepareOutcome eventOutcome runOutcome cellPageOutcome identificationPageOutcome isSound clauses step react turn recordRefusal eventAt
+expect-requires-2 c κs = eq-eqb _ 1 (ap (λ (x : Progress). x .done) (c .before .before .before .before .before .before .before .run .ensures) ∙ ap (λ (s : State). runOutcome 1 (worldOf s (replicate 512 0xFF) (replicate 16 0xFF) (replicate 32 0)) (3 ∷ 0 ∷ 1 ∷ 0 ∷ 4 ∷ []) (9 ∷ []) 5 .done) (c .before .before .before .before .before .before .before .before .before .before .before .before .before .prepared-state .ensures))
+
+expect-requires-3 : tie.Need-expect-requires-3
+unfolding lentRefusal worldRefusal prepareOutcome eventOutcome runOutcome cellPageOutcome identificationPageOutcome isSound clauses step react turn recordRefusal eventAt
+expect-requires-3 c κs = eq-eqb _ 5 (ap (λ (x : Progress). x .taken) (c .before .before .before .before .before .before .before .before .before .run .ensures) ∙ ap (λ (s : State). runOutcome 1 (worldOf s (replicate 512 0xFF) (replicate 16 0xFF) (replicate 32 0)) (3 ∷ 0 ∷ 1 ∷ 0 ∷ 4 ∷ []) (9 ∷ []) 5 .taken) (c .before .before .before .before .before .before .before .before .before .before .before .before .before .before .before .prepared-state .ensures))
+
+slice-aggregate-run-6 : tie.Need-slice-aggregate-run-6
+slice-aggregate-run-6 c = search needs
+
+slice-aggregate-run-7 : tie.Need-slice-aggregate-run-7
+slice-aggregate-run-7 c = search needs
+
+slice-aggregate-run-8 : tie.Need-slice-aggregate-run-8
+slice-aggregate-run-8 c = search needs
+
+slice-aggregate-run-9 : tie.Need-slice-aggregate-run-9
+slice-aggregate-run-9 c = search needs
+
+slice-aggregate-run-10 : tie.Need-slice-aggregate-run-10
+slice-aggregate-run-10 c = search needs
+
+run-requires-2 : tie.Need-run-requires-2
+run-requires-2 c κs = search needs
+
+expect-requires-4 : tie.Need-expect-requires-4
+unfolding lentRefusal worldRefusal prepareOutcome eventOutcome runOutcome cellPageOutcome identificationPageOutcome isSound clauses step react turn recordRefusal eventAt
+expect-requires-4 c κs = eq-eqb _ 1 (ap (λ (x : Progress). x .number) (c .before .before .before .before .before .run2 .ensures))
+
+expect-requires-5 : tie.Need-expect-requires-5
+unfolding lentRefusal worldRefusal prepareOutcome eventOutcome runOutcome cellPageOutcome identificationPageOutcome isSound clauses step react turn recordRefusal eventAt
+expect-requires-5 c κs = eq-eqb _ 0 (ap (λ (x : Progress). x .done) (c .before .before .before .before .before .before .before .run2 .ensures))
+
+returns : tie.Need-returns
+returns c = search needs
 
 pub runs-spec : {M : Type 1} → statement M
-runs-spec 𝓤 H 𝓜 𝓖 𝓡 = ?
+runs-spec =
+    tie.close
+    (tie.spec
+    prepared-state-requires
+    slice-aggregate-run
+    slice-aggregate-run-2
+    slice-aggregate-run-3
+    slice-aggregate-run-4
+    slice-aggregate-run-5
+    run-requires
+    expect-requires
+    expect-requires-2
+    expect-requires-3
+    slice-aggregate-run-6
+    slice-aggregate-run-7
+    slice-aggregate-run-8
+    slice-aggregate-run-9
+    slice-aggregate-run-10
+    run-requires-2
+    expect-requires-4
+    expect-requires-5
+    returns)

@@ -1,3 +1,10 @@
+use Rattle.rules.specs.Trace.{Progress, eventAt, recordRefusal, turn}
+use Rattle.rules.specs.Event.{react, step}
+use Rattle.rules.specs.Sound.{clauses, isSound}
+use lib.ListN.{length}
+use Rattle.rules.specs.Call.{Prepared, Replied, Shown, lentRefusal, worldRefusal, prepareOutcome, eventOutcome, runOutcome, cellPageOutcome, identificationPageOutcome}
+use mathlib.Core.Path.{ap, _∙_}
+use borrow.Author.Tests.{eq-eqb}
 use borrow.Author.Needs.{needs}
 use Rattle.caller.proofs.shows.Statement.{statement}
 use Rattle.caller.proofs.shows.Tie as tie
@@ -9,10 +16,12 @@ cell-page-requires : tie.Need-cell-page-requires
 cell-page-requires c κs = search needs
 
 expect-requires : tie.Need-expect-requires
-expect-requires c κs = ?
+unfolding lentRefusal worldRefusal prepareOutcome eventOutcome runOutcome cellPageOutcome identificationPageOutcome isSound clauses step react turn recordRefusal eventAt
+expect-requires c κs = eq-eqb _ 13 (ap (λ (x : Shown). x .number) (c .cell-page .ensures))
 
 expect-requires-2 : tie.Need-expect-requires-2
-expect-requires-2 c κs = ?
+unfolding lentRefusal worldRefusal prepareOutcome eventOutcome runOutcome cellPageOutcome identificationPageOutcome isSound clauses step react turn recordRefusal eventAt
+expect-requires-2 c κs = eq-eqb _ 0 (ap (λ (x : Shown). length (x .part)) (c .before .cell-page .ensures))
 
 slice-aggregate-identification-page : tie.Need-slice-aggregate-identification-page
 slice-aggregate-identification-page c = search needs
@@ -21,10 +30,12 @@ identification-page-requires : tie.Need-identification-page-requires
 identification-page-requires c κs = search needs
 
 expect-requires-3 : tie.Need-expect-requires-3
-expect-requires-3 c κs = ?
+unfolding lentRefusal worldRefusal prepareOutcome eventOutcome runOutcome cellPageOutcome identificationPageOutcome isSound clauses step react turn recordRefusal eventAt
+expect-requires-3 c κs = eq-eqb _ 1 (ap (λ (x : Shown). x .number) (c .identification-page .ensures))
 
 expect-requires-4 : tie.Need-expect-requires-4
-expect-requires-4 c κs = ?
+unfolding lentRefusal worldRefusal prepareOutcome eventOutcome runOutcome cellPageOutcome identificationPageOutcome isSound clauses step react turn recordRefusal eventAt
+expect-requires-4 c κs = eq-eqb _ 0 (ap (λ (x : Shown). length (x .part)) (c .before .identification-page .ensures))
 
 returns : tie.Need-returns
 returns c = search needs

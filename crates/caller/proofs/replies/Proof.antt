@@ -1,0 +1,80 @@
+use lib.ListN.{replicate}
+use mathlib.Core.List.{[], _∷_}
+use mathlib.Core.Bool.{true, false}
+use Rattle.rules.specs.declared.Event.{Event}
+use Rattle.rules.specs.declared.State.{State}
+use Rattle.rules.specs.World.{worldOf}
+use Rattle.rules.specs.Trace.{Progress, eventAt, recordRefusal, turn}
+use Rattle.rules.specs.Event.{react, step}
+use Rattle.rules.specs.Sound.{clauses, isSound}
+use Rattle.rules.specs.Call.{Prepared, Replied, Shown, lentRefusal, worldRefusal, prepareOutcome, eventOutcome, runOutcome, cellPageOutcome, identificationPageOutcome}
+use mathlib.Core.Path.{ap, _∙_}
+use borrow.Author.Tests.{eq-eqb}
+use borrow.Author.Needs.{needs}
+use Rattle.caller.proofs.replies.Statement.{statement}
+use Rattle.caller.proofs.replies.Tie as tie
+
+prepared-state-requires : tie.Need-prepared-state-requires
+prepared-state-requires c κs = search needs
+
+slice-aggregate-event : tie.Need-slice-aggregate-event
+slice-aggregate-event c = search needs
+
+slice-aggregate-event-2 : tie.Need-slice-aggregate-event-2
+slice-aggregate-event-2 c = search needs
+
+slice-aggregate-event-3 : tie.Need-slice-aggregate-event-3
+slice-aggregate-event-3 c = search needs
+
+event-requires : tie.Need-event-requires
+event-requires c κs = search needs
+
+expect-requires : tie.Need-expect-requires
+unfolding lentRefusal worldRefusal prepareOutcome eventOutcome runOutcome cellPageOutcome identificationPageOutcome isSound clauses step react turn recordRefusal eventAt
+expect-requires c κs = eq-eqb _ 0 (ap (λ (x : Replied). x .number) (c .before .before .before .before .event .ensures) ∙ ap (λ (s : State). eventOutcome 1 (worldOf s (replicate 512 0xFF) (replicate 16 0xFF) (replicate 32 0)) (Event.Select false) .number) (c .before .before .before .before .before .before .before .before .prepared-state .ensures))
+
+expect-requires-2 : tie.Need-expect-requires-2
+unfolding lentRefusal worldRefusal prepareOutcome eventOutcome runOutcome cellPageOutcome identificationPageOutcome isSound clauses step react turn recordRefusal eventAt
+expect-requires-2 c κs = eq-eqb _ 2 (ap (λ (x : Replied). x .answer) (c .before .before .before .before .before .before .event .ensures) ∙ ap (λ (s : State). eventOutcome 1 (worldOf s (replicate 512 0xFF) (replicate 16 0xFF) (replicate 32 0)) (Event.Select false) .answer) (c .before .before .before .before .before .before .before .before .before .before .prepared-state .ensures))
+
+slice-aggregate-event-4 : tie.Need-slice-aggregate-event-4
+slice-aggregate-event-4 c = search needs
+
+slice-aggregate-event-5 : tie.Need-slice-aggregate-event-5
+slice-aggregate-event-5 c = search needs
+
+slice-aggregate-event-6 : tie.Need-slice-aggregate-event-6
+slice-aggregate-event-6 c = search needs
+
+event-requires-2 : tie.Need-event-requires-2
+event-requires-2 c κs = search needs
+
+expect-requires-3 : tie.Need-expect-requires-3
+unfolding lentRefusal worldRefusal prepareOutcome eventOutcome runOutcome cellPageOutcome identificationPageOutcome isSound clauses step react turn recordRefusal eventAt
+expect-requires-3 c κs = eq-eqb _ 1 (ap (λ (x : Replied). x .number) (c .before .before .before .before .event2 .ensures))
+
+expect-requires-4 : tie.Need-expect-requires-4
+unfolding lentRefusal worldRefusal prepareOutcome eventOutcome runOutcome cellPageOutcome identificationPageOutcome isSound clauses step react turn recordRefusal eventAt
+expect-requires-4 c κs = eq-eqb _ 2 (ap (λ (x : Replied). x .answer) (c .before .before .before .before .before .before .event2 .ensures))
+
+returns : tie.Need-returns
+returns c = search needs
+
+pub replies-spec : {M : Type 1} → statement M
+replies-spec =
+    tie.close
+    (tie.spec
+    prepared-state-requires
+    slice-aggregate-event
+    slice-aggregate-event-2
+    slice-aggregate-event-3
+    event-requires
+    expect-requires
+    expect-requires-2
+    slice-aggregate-event-4
+    slice-aggregate-event-5
+    slice-aggregate-event-6
+    event-requires-2
+    expect-requires-3
+    expect-requires-4
+    returns)
