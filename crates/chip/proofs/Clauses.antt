@@ -1,5 +1,5 @@
 -- The soundness test as flags joined by "and", and as the rules' list of clauses.
-use Prim.Native.Nat.{ℕ, _+_, _*_, _%_, _^_, _≤_, _<_}
+use Prim.Native.Nat.{ℕ, _*_, _%_, _^_, _≤_, _<_}
 use mathlib.Core.Path.{_≡_, refl, sym, ap, _∙_}
 use mathlib.Core.Bool.{Bool, true, false, not, _&&_, _||_, and-true, and-assoc, Bool·beq}
 use mathlib.Core.List.{List, [], _∷_, _++_}

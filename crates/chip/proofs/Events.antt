@@ -1,20 +1,19 @@
 -- What each event does, one law for each way through the rules.
-use Prim.Native.Nat.{ℕ, _+_, _-_}
+use Prim.Native.Nat.{ℕ}
 use mathlib.Core.Path.{_≡_, refl, sym, ap, _∙_}
-use mathlib.Core.Bool.{Bool, true, false, not, _&&_, _||_, true≢false}
-use mathlib.Core.List.{List, []}
+use mathlib.Core.Bool.{Bool, true, false, not, _&&_}
+use mathlib.Core.List.{List}
 use Rattle.rules.specs.declared.Row.{Row}
 use Rattle.rules.specs.declared.Event.{Event}
 use Rattle.rules.specs.declared.Level.{Level}
-use Rattle.rules.specs.declared.Selection.{Selection}
 use Rattle.rules.specs.declared.State.{State}
-use Rattle.rules.specs.World.{if_then_else_, World, worldOf, withPins, withSelection, withState}
+use Rattle.rules.specs.World.{World, worldOf, withPins, withSelection, withState}
 use Rattle.rules.specs.Instruction.{busy}
 use Rattle.rules.specs.Receive.{risen, risenLatch}
 use Rattle.rules.specs.Send.{fallen}
 use Rattle.rules.specs.Judge.{judged}
 use Rattle.rules.specs.Cycle.{waitedState, waited}
-use Rattle.rules.specs.Event.{pinsAfter, selected, deselected, sawLow, powered, decodes, react, settled, step, answer, isPower, refusal}
+use Rattle.rules.specs.Event.{pinsAfter, selected, deselected, sawLow, decodes, react, settled, step, answer, refusal}
 use Rattle.rules.specs.Trace.{answerByte}
 use Rattle.chip.specs.Alone.{stepAlone}
 

@@ -1,22 +1,22 @@
 -- The outcome of each call, one law for each way through the rules.
 use Prim.Native.Nat.{ℕ, _+_, _-_, _*_, _%_, _≤_, _<_}
-use mathlib.Core.Path.{_≡_, refl, sym, ap, _∙_, subst}
-use mathlib.Core.Bool.{Bool, true, false, not, _&&_, true≢false}
+use mathlib.Core.Path.{_≡_, sym, ap, _∙_, subst}
+use mathlib.Core.Bool.{Bool, true, false, not, true≢false}
 use mathlib.Core.List.{List, [], _++_}
 use native.Mathlib.Nat.{mod-le, add-sub-cancel-left}
 use native.Mathlib.Omega.{arith}
 use lib.ListN.{length, take, drop, replicate}
-use lib.Dec.{eqb, leb}
-use borrow.Author.Tests.{eqb-true, eq-eqb, ne-eqb, le-leb, lt-leb, not-true, not-false}
+use lib.Dec.{eqb}
+use borrow.Author.Tests.{eqb-true, eq-eqb, ne-eqb, le-leb, lt-leb, not-false}
 use Rattle.rules.specs.declared.Row.{Row}
 use Rattle.rules.specs.declared.Event.{Event}
 use Rattle.rules.specs.declared.State.{State}
-use Rattle.rules.specs.World.{if_then_else_, World, worldOf}
+use Rattle.rules.specs.World.{World, worldOf}
 use Rattle.rules.specs.Device.{Widths, isDevice, rowOf, code, preparedState, prepared}
 use Rattle.rules.specs.Event.{step, answer, refusal}
 use Rattle.rules.specs.Sound.{isSound, Sound, Lent}
 use Rattle.rules.specs.Trace.{answerByte, Progress, progressOf, run}
-use Rattle.rules.specs.Call.{lentRefusal, worldRefusal, Prepared, preparedAs, prepareOutcome, Replied, repliedAs, eventOutcome, runOutcome, Shown, shownAs, cellPageOutcome, identificationPageOutcome}
+use Rattle.rules.specs.Call.{lentRefusal, worldRefusal, preparedAs, prepareOutcome, repliedAs, eventOutcome, runOutcome, shownAs, cellPageOutcome, identificationPageOutcome}
 use Rattle.rules.proofs.Choice.{if-elim}
 use Rattle.rules.proofs.Soundness.{reads}
 use Rattle.rules.proofs.Widths.{of-device, start-aligned}

@@ -1,17 +1,15 @@
 -- One step of each definition that a loop follows, and the start of a prepared identification page.
-use Prim.Native.Nat.{ℕ, zero, suc, _+_, _-_, _≤_, _<_}
+use Prim.Native.Nat.{ℕ, suc, _+_, _-_, _≤_, _<_}
 use mathlib.Core.Path.{_≡_, refl, sym, ap, _∙_, subst}
-use mathlib.Core.Bool.{Bool, true, false, _&&_}
-use mathlib.Core.List.{List, [], _∷_, _++_, append-nil}
+use mathlib.Core.Bool.{true, false}
+use mathlib.Core.List.{List, _∷_, _++_, append-nil}
 use native.Mathlib.Nat.{sub-zero}
 use native.Mathlib.Numerals.{add-one}
 use native.Mathlib.Omega.{arith}
 use lib.ListN.{getD, set, take, drop, length, replicate, length-take, length-drop, length-replicate, drop-of-length-le}
 use lib.Seq.{drop-cons, take-all}
-use lib.Dec.{eqb, leb}
 use borrow.Author.Tests.{ne-eqb, le-leb, lt-leb}
 use Rattle.rules.specs.declared.Row.{Row}
-use Rattle.rules.specs.World.{if_then_else_}
 use Rattle.rules.specs.Device.{code}
 use Rattle.rules.specs.Receive.{cleared}
 use Rattle.rules.specs.Sound.{areMarks}

@@ -2,7 +2,7 @@
 use mathlib.Core.Path.{refl}
 use Rattle.rules.specs.Device.{prepared}
 use Rattle.rules.specs.Receive.{risen, risenLatch}
-use Rattle.rules.specs.Send.{outputAfter, fallen}
+use Rattle.rules.specs.Send.{fallen}
 use Rattle.rules.specs.Judge.{judged}
 use Rattle.rules.specs.Cycle.{waitedState, waited}
 use Rattle.rules.specs.Event.{react, step}

@@ -1,12 +1,12 @@
 -- What holds at every turn of a run, and how one turn keeps it.
 use Prim.Native.Nat.{ℕ, zero, suc, _+_, _-_, _≤_, _<_}
 use mathlib.Core.Path.{_≡_, refl, sym, ap, _∙_, subst}
-use mathlib.Core.Bool.{Bool, true, false, not, _&&_, _||_}
+use mathlib.Core.Bool.{Bool, true, false}
 use mathlib.Core.List.{List}
 use native.Mathlib.Omega.{arith}
 use lib.ListN.{length, set, length-set}
-use lib.Dec.{eqb, leb, ltb}
-use borrow.Author.Tests.{eqb-true, eq-eqb, ne-eqb, le-leb, lt-leb, ltb-true}
+use lib.Dec.{leb, ltb}
+use borrow.Author.Tests.{ne-eqb, le-leb, lt-leb, ltb-true}
 use Rattle.rules.specs.declared.Row.{Row}
 use Rattle.rules.specs.declared.Event.{Event}
 use Rattle.rules.specs.World.{if_then_else_, number, World}
@@ -14,7 +14,6 @@ use Rattle.rules.specs.Device.{Widths}
 use Rattle.rules.specs.Sound.{Sound, Lent}
 use Rattle.rules.specs.Event.{step, answer, refusal}
 use Rattle.rules.specs.Trace.{two, pinEvent, eventAt, recordRefusal, answerByte, Progress, progressOf, turn, run}
-use Rattle.rules.proofs.Choice.{if-elim}
 use Rattle.rules.proofs.Preserved.{preserved}
 use Rattle.traces.specs.Quick.{IsPin}
 use Rattle.traces.proofs.Reading.{turn-does}

@@ -1,12 +1,12 @@
 -- The short ways: that a record which is sorted to one is what it seems, and that the way is the rules' step.
-use Prim.Native.Nat.{ℕ, _+_, _-_, _*_, _≤_, _<_}
+use Prim.Native.Nat.{ℕ, _+_, _-_, _*_, _≤_}
 use mathlib.Core.Path.{_≡_, refl, sym, ap, _∙_, subst}
 use mathlib.Core.Bool.{Bool, true, false, not, _&&_, _||_, and-false}
 use mathlib.Core.List.{List, []}
 use native.Mathlib.Omega.{arith}
 use lib.ListN.{getD, length}
-use lib.Dec.{eqb, leb, ltb}
-use borrow.Author.Tests.{eqb-true, eqb-false, eq-eqb, ne-eqb, le-ltb, not-true, not-false}
+use lib.Dec.{eqb, ltb}
+use borrow.Author.Tests.{eqb-true, eqb-false, ne-eqb, le-ltb, not-true, not-false}
 use Rattle.rules.specs.declared.Row.{Row}
 use Rattle.rules.specs.declared.Source.{Source}
 use Rattle.rules.specs.declared.Output.{Output}
@@ -15,8 +15,8 @@ use Rattle.rules.specs.declared.Event.{Event}
 use Rattle.rules.specs.World.{if_then_else_, number, withPins, withSelection, worldOf}
 use Rattle.rules.specs.Receive.{latchAfter, value, isByte, risen, risenLatch}
 use Rattle.rules.specs.Send.{going, sourceOf, isSending, shownAddress, outputOf, outputAfter, fallen}
-use Rattle.rules.specs.Event.{pinsAfter, decodes, react, settled, step, refusal}
-use Rattle.rules.specs.Trace.{two, lengthOf, pinEvent, eventAt, badPin, recordRefusal}
+use Rattle.rules.specs.Event.{pinsAfter, decodes, react, step, refusal}
+use Rattle.rules.specs.Trace.{two, pinEvent, eventAt, recordRefusal}
 use Rattle.rules.proofs.Choice.{if-elim, if-no, and-left, and-right, and-both, clash}
 use Rattle.chip.specs.Alone.{stepAlone}
 use Rattle.traces.specs.declared.quick.Usual.{Usual}

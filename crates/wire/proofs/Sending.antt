@@ -1,11 +1,11 @@
 -- What C's fall does, one law for each way through the rules.
-use Prim.Native.Nat.{ℕ, _+_, _-_, _≤_, _<_, min}
+use Prim.Native.Nat.{ℕ, _+_, _≤_, _<_}
 use mathlib.Core.Path.{_≡_, refl, sym, ap, _∙_}
-use mathlib.Core.Bool.{Bool, true, false, not, _&&_, true≢false}
+use mathlib.Core.Bool.{Bool, true, false, not, _&&_}
 use mathlib.Core.List.{List}
 use native.Mathlib.Nat.{min-eq-left, min-eq-right}
 use native.Mathlib.Omega.{arith}
-use lib.Dec.{eqb, leb}
+use lib.Dec.{eqb}
 use mir.Val.{boolByte}
 use borrow.Author.Tests.{eq-eqb, ne-eqb, le-leb, lt-leb, leb-false}
 use Rattle.rules.specs.declared.Row.{Row}
@@ -14,9 +14,9 @@ use Rattle.rules.specs.declared.Going.{Going}
 use Rattle.rules.specs.declared.Level.{Level}
 use Rattle.rules.specs.declared.Output.{Output}
 use Rattle.rules.specs.declared.State.{State}
-use Rattle.rules.specs.World.{if_then_else_, bit, number, withSelection}
-use Rattle.rules.specs.Instruction.{facts, commandBytes}
-use Rattle.rules.specs.Send.{byteOf, going, sourceOf, level, isSending, shownAddress, outputOf, outputAfter, fallen}
+use Rattle.rules.specs.World.{number, withSelection}
+use Rattle.rules.specs.Instruction.{commandBytes}
+use Rattle.rules.specs.Send.{byteOf, going, sourceOf, isSending, shownAddress, outputOf, outputAfter, fallen}
 
 pub page-inside : (row : Row) (a : ℕ) → a < row .page → record { sends = true; after = a + 1; past = false } ≡ going row Source.Identification a
 page-inside row a h = rw (min-eq-left {n = a + 1} {m = row .page} (omega arith), lt-leb (row .page) a h)

@@ -1,11 +1,9 @@
 -- What C's rise does, one law for each way through the rules.
-use Prim.Native.Nat.{ℕ, _+_, _-_, _*_, _%_, _≤_, _<_, min}
+use Prim.Native.Nat.{ℕ, _+_, _%_, _<_, min}
 use mathlib.Core.Path.{_≡_, refl, sym, ap, _∙_}
-use mathlib.Core.Bool.{Bool, true, false, not, _&&_, _||_, true≢false}
+use mathlib.Core.Bool.{Bool, true, false, not, _&&_, true≢false}
 use mathlib.Core.List.{List}
 use native.Mathlib.Omega.{arith}
-use lib.ListN.{length, set}
-use lib.Dec.{eqb, leb, ltb}
 use lib.Pow.{pow-mono}
 use borrow.Author.Tests.{eq-eqb, ne-eqb}
 use Rattle.rules.specs.declared.Row.{Row}
@@ -14,10 +12,9 @@ use Rattle.rules.specs.declared.Facts.{Facts}
 use Rattle.rules.specs.declared.Input.{Input}
 use Rattle.rules.specs.declared.Command.{Command}
 use Rattle.rules.specs.declared.State.{State}
-use Rattle.rules.specs.World.{if_then_else_, bit, number, withSelection}
-use Rattle.rules.specs.Device.{single}
-use Rattle.rules.specs.Instruction.{facts, decode, busy, holdsLatch, latches, turnedAway, commandBytes, startAddress, longer, lockBit}
-use Rattle.rules.specs.Receive.{isCode, isAddress, isLast, isLatched, commandAfter, rolled, addressAfter, cleared, marked, clears, latchAfter, inputAfter, value, isByte, risen, risenLatch}
+use Rattle.rules.specs.World.{bit, withSelection}
+use Rattle.rules.specs.Instruction.{facts, decode, busy, commandBytes, startAddress, longer, lockBit}
+use Rattle.rules.specs.Receive.{isAddress, isLast, isLatched, commandAfter, rolled, addressAfter, cleared, marked, clears, latchAfter, inputAfter, value, risen, risenLatch}
 use Rattle.rules.specs.Sound.{SoundInput}
 
 -- A sound value has room for a bit more.

@@ -5,14 +5,13 @@ use mathlib.Core.Bool.{Bool, true, false, not, _&&_, _||_, and-true, and-false, 
 use mathlib.Core.List.{List}
 use native.Mathlib.Nat.{div-add-mod', div-lt-iff-lt-mul, mul-le-mul-right}
 use native.Mathlib.Omega.{arith}
-use lib.ListN.{length}
 use lib.Dec.{leb}
 use borrow.Author.Tests.{not-true, not-false}
 use Rattle.rules.specs.declared.Row.{Row}
 use Rattle.rules.specs.declared.Kind.{Kind}
 use Rattle.rules.specs.declared.Change.{Change}
 use Rattle.rules.specs.declared.State.{State}
-use Rattle.rules.specs.World.{if_then_else_, withStored, World, worldOf}
+use Rattle.rules.specs.World.{if_then_else_, withStored, worldOf}
 use Rattle.rules.specs.Device.{Widths}
 use Rattle.rules.specs.Instruction.{changes}
 use Rattle.rules.specs.Cycle.{written, ends, waitedState, waited}

@@ -1,3 +1,4 @@
+-- `bits::address_bit` meets its contract.
 use Rattle.bits.proofs.Masks.{at-bit}
 use borrow.Author.Needs.{needs}
 use Rattle.bits.proofs.address_bit.Statement.{statement}

@@ -1,3 +1,4 @@
+-- `bits::bit_of` meets its contract.
 use Rattle.bits.proofs.Masks.{at-bit}
 use borrow.Author.Needs.{needs}
 use Rattle.bits.proofs.bit_of.Statement.{statement}

@@ -1,3 +1,4 @@
+-- `bits::blocks` meets its contract.
 use Prim.Native.Nat.{_/_}
 use mathlib.Core.Path.{refl}
 use Rattle.bits.proofs.Masks.{within}

@@ -1,3 +1,4 @@
+-- `bits::cell_after` meets its contract.
 use Prim.Native.Nat.{_+_}
 use Rattle.bits.proofs.Masks.{within}
 use borrow.Author.Needs.{needs}

@@ -1,3 +1,4 @@
+-- `bits::four` meets its contract.
 use native.Mathlib.Omega.{arith}
 use Rattle.bits.proofs.Masks.{join}
 use borrow.Author.Needs.{needs}

@@ -1,3 +1,4 @@
+-- `bits::place` meets its contract.
 use Rattle.bits.proofs.Masks.{within}
 use borrow.Author.Needs.{needs}
 use Rattle.bits.proofs.place.Statement.{statement}

@@ -1,3 +1,4 @@
+-- `bits::roll` meets its contract.
 use Prim.Native.Nat.{_+_}
 use native.Mathlib.Nat.{mod-lt, mod-le}
 use Rattle.rules.proofs.Widths.{page-below, page-positive}

@@ -1,3 +1,4 @@
+-- `bits::status_byte` meets its contract.
 use Rattle.bits.proofs.Masks.{or-status}
 use borrow.Author.Needs.{needs}
 use Rattle.bits.proofs.status_byte.Statement.{statement}

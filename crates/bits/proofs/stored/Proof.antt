@@ -1,3 +1,4 @@
+-- `bits::stored` meets its contract.
 use Rattle.bits.proofs.Masks.{stored-8C, stored-0C}
 use Rattle.bits.proofs.stored.Statement.{statement}
 use Rattle.bits.proofs.stored.Tie as tie

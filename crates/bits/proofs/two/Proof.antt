@@ -1,3 +1,4 @@
+-- `bits::two` meets its contract.
 use native.Mathlib.Omega.{arith}
 use Rattle.bits.proofs.Masks.{join}
 use Rattle.bits.proofs.two.Statement.{statement}

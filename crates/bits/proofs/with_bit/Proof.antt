@@ -1,4 +1,4 @@
--- `with_bit` meets its contract.
+-- `bits::with_bit` meets its contract.
 use Rattle.bits.proofs.Masks.{low-bit}
 use borrow.Author.Needs.{needs}
 use Rattle.bits.proofs.with_bit.Statement.{statement}

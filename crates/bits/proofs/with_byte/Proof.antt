@@ -1,3 +1,4 @@
+-- `bits::with_byte` meets its contract.
 use Rattle.bits.proofs.Masks.{address-byte}
 use borrow.Author.Needs.{needs}
 use Rattle.bits.proofs.with_byte.Statement.{statement}

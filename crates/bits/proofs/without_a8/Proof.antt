@@ -1,3 +1,4 @@
+-- `bits::without_a8` meets its contract.
 use Rattle.bits.proofs.Masks.{mask-a8}
 use Rattle.bits.proofs.without_a8.Statement.{statement}
 use Rattle.bits.proofs.without_a8.Tie as tie

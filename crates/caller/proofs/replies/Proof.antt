@@ -1,13 +1,13 @@
+-- `caller::replies` meets its contract.
 use lib.ListN.{replicate}
-use mathlib.Core.List.{[], _∷_}
-use mathlib.Core.Bool.{true, false}
+use mathlib.Core.Bool.{false}
 use Rattle.rules.specs.declared.Event.{Event}
 use Rattle.rules.specs.declared.State.{State}
 use Rattle.rules.specs.World.{worldOf}
-use Rattle.rules.specs.Trace.{Progress, eventAt, recordRefusal, turn}
+use Rattle.rules.specs.Trace.{eventAt, recordRefusal, turn}
 use Rattle.rules.specs.Event.{react, step}
 use Rattle.rules.specs.Sound.{clauses, isSound}
-use Rattle.rules.specs.Call.{Prepared, Replied, Shown, lentRefusal, worldRefusal, prepareOutcome, eventOutcome, runOutcome, cellPageOutcome, identificationPageOutcome}
+use Rattle.rules.specs.Call.{Replied, lentRefusal, worldRefusal, prepareOutcome, eventOutcome, runOutcome, cellPageOutcome, identificationPageOutcome}
 use mathlib.Core.Path.{ap, _∙_}
 use borrow.Author.Tests.{eq-eqb}
 use borrow.Author.Needs.{needs}

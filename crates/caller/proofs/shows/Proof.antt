@@ -1,9 +1,10 @@
-use Rattle.rules.specs.Trace.{Progress, eventAt, recordRefusal, turn}
+-- `caller::shows` meets its contract.
+use Rattle.rules.specs.Trace.{eventAt, recordRefusal, turn}
 use Rattle.rules.specs.Event.{react, step}
 use Rattle.rules.specs.Sound.{clauses, isSound}
 use lib.ListN.{length}
-use Rattle.rules.specs.Call.{Prepared, Replied, Shown, lentRefusal, worldRefusal, prepareOutcome, eventOutcome, runOutcome, cellPageOutcome, identificationPageOutcome}
-use mathlib.Core.Path.{ap, _∙_}
+use Rattle.rules.specs.Call.{Shown, lentRefusal, worldRefusal, prepareOutcome, eventOutcome, runOutcome, cellPageOutcome, identificationPageOutcome}
+use mathlib.Core.Path.{ap}
 use borrow.Author.Tests.{eq-eqb}
 use borrow.Author.Needs.{needs}
 use Rattle.caller.proofs.shows.Statement.{statement}

@@ -1,3 +1,4 @@
+-- `m95::cell_page` meets its contract.
 use native.Mathlib.Nat.{mod-le}
 use native.Mathlib.Omega.{arith}
 use Rattle.m95.proofs.Calling.{cell-device, cell-length, cell-past, cell-shown, row-widths, page-inside}

@@ -1,3 +1,4 @@
+-- `m95::event` meets its contract.
 use Rattle.rules.specs.World.{worldOf}
 use Rattle.m95.proofs.Calling.{event-refused, event-power, event-done, fine-row}
 use borrow.Author.Needs.{needs}

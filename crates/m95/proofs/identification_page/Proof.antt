@@ -1,3 +1,4 @@
+-- `m95::identification_page` meets its contract.
 use Rattle.m95.proofs.Calling.{page-device, page-length, page-shown}
 use borrow.Author.Needs.{needs}
 use Rattle.m95.proofs.identification_page.Statement.{statement}

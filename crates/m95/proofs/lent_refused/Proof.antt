@@ -1,3 +1,4 @@
+-- `m95::lent_refused` meets its contract.
 use Rattle.m95.proofs.Calling.{lent-device, lent-cells, lent-page, lent-latch, lent-good}
 use borrow.Author.Needs.{needs}
 use Rattle.m95.proofs.lent_refused.Statement.{statement}

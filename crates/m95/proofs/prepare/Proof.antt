@@ -1,3 +1,4 @@
+-- `m95::prepare` meets its contract.
 use mathlib.Core.Path.{refl, sym, _∙_}
 use Rattle.m95.proofs.Calling.{prepare-refused, prepare-done, row-widths, lent-fine, page-at}
 use borrow.Author.Needs.{needs}

@@ -1,3 +1,4 @@
+-- `m95::run` meets its contract.
 use Rattle.rules.specs.World.{worldOf}
 use Rattle.m95.proofs.Calling.{run-refused, run-done, fine-row}
 use borrow.Author.Needs.{needs}

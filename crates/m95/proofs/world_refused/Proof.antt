@@ -1,3 +1,4 @@
+-- `m95::world_refused` meets its contract.
 use Rattle.rules.specs.declared.Row.{Row}
 use Rattle.rules.specs.World.{worldOf}
 use lib.ListN.{length}

@@ -1,3 +1,4 @@
+-- `memory::are_marks` meets its contract.
 use Rattle.rules.specs.Sound.{areMarks}
 use lib.ListN.{length, drop}
 use mathlib.Core.Path.{_≡_, refl, sym, _∙_}

@@ -1,3 +1,4 @@
+-- `memory::clear_marks` meets its contract.
 use Rattle.memory.proofs.Laws.{part-cleared}
 use borrow.Author.Needs.{needs}
 use Rattle.memory.proofs.clear_marks.Statement.{statement}

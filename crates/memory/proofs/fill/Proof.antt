@@ -1,3 +1,4 @@
+-- `memory::fill` meets its contract.
 use lib.ListN.{length, length-set, replicate, drop}
 use mathlib.Core.List.{_++_}
 use mathlib.Core.Path.{_≡_, refl, _∙_}

@@ -1,3 +1,4 @@
+-- `memory::latch_is_marked` meets its contract.
 use Rattle.rules.specs.Sound.{areMarks}
 use mathlib.Core.Path.{_∙_, ap}
 use Rattle.memory.proofs.Laws.{part-marks}

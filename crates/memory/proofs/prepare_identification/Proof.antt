@@ -1,3 +1,4 @@
+-- `memory::prepare_identification` meets its contract.
 use lib.ListN.{length, length-set}
 use native.Mathlib.Omega.{arith}
 use Rattle.memory.proofs.Laws.{with-code, without-code, length-fill}

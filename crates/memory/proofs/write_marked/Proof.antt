@@ -1,3 +1,4 @@
+-- `memory::write_marked` meets its contract.
 use Rattle.rules.specs.Cycle.{written}
 use lib.ListN.{length, length-set}
 use mathlib.Core.Logic.{⊎-elim}

@@ -1,3 +1,4 @@
+-- `tables::changes` meets its contract.
 use Rattle.rules.specs.Instruction.{changes}
 use mathlib.Core.Path.{_∙_, ap, sym}
 use borrow.Author.Needs.{needs}

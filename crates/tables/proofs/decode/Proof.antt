@@ -1,3 +1,4 @@
+-- `tables::decode` meets its contract.
 use Rattle.tables.proofs.Looks.{decode-rdid, decode-wrid, decode-plain, plain-none}
 use borrow.Author.Needs.{needs}
 use Rattle.tables.proofs.decode.Statement.{statement}

@@ -1,3 +1,4 @@
+-- `tables::facts` meets its contract.
 use Rattle.rules.specs.Instruction.{facts}
 use mathlib.Core.Path.{_∙_, ap, sym}
 use borrow.Author.Needs.{needs}

@@ -1,3 +1,4 @@
+-- `tables::plain` meets its contract.
 use Rattle.tables.proofs.Looks.{plain-one, plain-more}
 use borrow.Author.Needs.{needs}
 use Rattle.tables.proofs.plain.Statement.{statement}

@@ -1,3 +1,4 @@
+-- `tables::row_of` meets its contract.
 use Prim.Native.Nat.{_-_}
 use mathlib.Core.Path.{sym}
 use lib.ListN.{List·getD-eq-default}

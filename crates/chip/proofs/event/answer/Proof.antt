@@ -1,3 +1,4 @@
+-- `chip::event::answer` meets its contract.
 use Rattle.chip.proofs.Events.{answer-held, answer-level}
 use borrow.Author.Needs.{needs}
 use Rattle.chip.proofs.event.answer.Statement.{statement}

@@ -1,3 +1,4 @@
+-- `chip::event::chip_select` meets its contract.
 use Rattle.chip.proofs.Events.{select-ends, select-idle, select-begins, select-low}
 use borrow.Author.Needs.{needs}
 use Rattle.chip.proofs.event.chip_select.Statement.{statement}

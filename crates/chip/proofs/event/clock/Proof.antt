@@ -1,3 +1,4 @@
+-- `chip::event::clock` meets its contract.
 use Rattle.chip.proofs.Events.{clock-up, clock-down}
 use borrow.Author.Needs.{needs}
 use Rattle.chip.proofs.event.clock.Statement.{statement}

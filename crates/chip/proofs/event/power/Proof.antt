@@ -1,3 +1,4 @@
+-- `chip::event::power` meets its contract.
 use mathlib.Core.Path.{_∙_, ap}
 use Rattle.rules.specs.Event.{react, settled, step}
 use borrow.Author.Needs.{needs}

@@ -1,3 +1,4 @@
+-- `chip::event::refused` meets its contract.
 use mathlib.Core.Path.{refl}
 use Rattle.chip.proofs.Events.{refusal-by, power-refused, power-taken}
 use borrow.Author.Needs.{needs}

@@ -1,3 +1,4 @@
+-- `chip::event::set_data` meets its contract.
 use Rattle.rules.specs.Event.{react, step}
 use borrow.Author.Needs.{needs}
 use Rattle.chip.proofs.event.set_data.Statement.{statement}

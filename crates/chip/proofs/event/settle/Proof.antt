@@ -1,3 +1,4 @@
+-- `chip::event::settle` meets its contract.
 use Rattle.chip.proofs.Events.{settle-low, settle-high}
 use Rattle.chip.proofs.event.settle.Statement.{statement}
 use Rattle.chip.proofs.event.settle.Tie as tie

@@ -1,3 +1,4 @@
+-- `chip::event::step` meets its contract.
 use Rattle.chip.proofs.Events.{step-by, data-alone, select-alone, hold-alone, protect-alone, power-alone, waits}
 use borrow.Author.Needs.{needs}
 use Rattle.chip.proofs.event.step.Statement.{statement}

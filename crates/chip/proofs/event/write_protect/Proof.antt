@@ -1,3 +1,4 @@
+-- `chip::event::write_protect` meets its contract.
 use Rattle.chip.proofs.Events.{protect-high, protect-low}
 use borrow.Author.Needs.{needs}
 use Rattle.chip.proofs.event.write_protect.Statement.{statement}

@@ -1,3 +1,4 @@
+-- `chip::sound::cycle_sound` meets its contract.
 use Rattle.chip.proofs.Clauses.{cycle-all}
 use borrow.Author.Needs.{needs}
 use Rattle.chip.proofs.sound.cycle_sound.Statement.{statement}

@@ -1,3 +1,4 @@
+-- `chip::sound::is_sound` meets its contract.
 use Rattle.chip.proofs.Clauses.{all-sound}
 use borrow.Author.Needs.{needs}
 use Rattle.chip.proofs.sound.is_sound.Statement.{statement}

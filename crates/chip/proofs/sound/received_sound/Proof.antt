@@ -1,3 +1,4 @@
+-- `chip::sound::received_sound` meets its contract.
 use Rattle.chip.proofs.Clauses.{received-none, received-some, one-shifted}
 use borrow.Author.Needs.{needs}
 use Rattle.chip.proofs.sound.received_sound.Statement.{statement}

@@ -1,3 +1,4 @@
+-- `chip::sound::resting_sound` meets its contract.
 use Rattle.chip.proofs.Clauses.{resting-all}
 use borrow.Author.Needs.{needs}
 use Rattle.chip.proofs.sound.resting_sound.Statement.{statement}

@@ -1,3 +1,4 @@
+-- `chip::sound::time_sound` meets its contract.
 use Rattle.chip.proofs.Clauses.{time-runs, time-rests}
 use borrow.Author.Needs.{needs}
 use Rattle.chip.proofs.sound.time_sound.Statement.{statement}

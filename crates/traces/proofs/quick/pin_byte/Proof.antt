@@ -1,3 +1,4 @@
+-- `traces::quick::pin_byte` meets its contract.
 use Rattle.traces.proofs.Short.{pin-found}
 use borrow.Author.Needs.{needs}
 use Rattle.traces.proofs.quick.pin_byte.Statement.{statement}

@@ -1,3 +1,4 @@
+-- `traces::quick::quick_bit` meets its contract.
 use Rattle.wire.proofs.Taking.{value-room}
 use Rattle.traces.proofs.Short.{bit-way}
 use borrow.Author.Needs.{needs}

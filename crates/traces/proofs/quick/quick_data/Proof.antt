@@ -1,3 +1,4 @@
+-- `traces::quick::quick_data` meets its contract.
 use Rattle.traces.proofs.Short.{data-way}
 use Rattle.traces.proofs.quick.quick_data.Statement.{statement}
 use Rattle.traces.proofs.quick.quick_data.Tie as tie

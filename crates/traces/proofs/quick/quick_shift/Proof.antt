@@ -1,3 +1,4 @@
+-- `traces::quick::quick_shift` meets its contract.
 use mathlib.Core.List.{[]}
 use Rattle.traces.proofs.Short.{shift-way}
 use borrow.Author.Needs.{needs}

@@ -1,3 +1,4 @@
+-- `traces::quick::quick_still` meets its contract.
 use mathlib.Core.List.{[]}
 use Rattle.traces.proofs.Short.{still-way}
 use Rattle.traces.proofs.quick.quick_still.Statement.{statement}

@@ -1,3 +1,4 @@
+-- `traces::quick::sorted` meets its contract.
 use mathlib.Core.Bool.{true, false}
 use native.Mathlib.Omega.{arith}
 use Rattle.traces.proofs.Short.{sorted-fall, sorted-rise, sorted-data, pin-is}

@@ -1,3 +1,4 @@
+-- `traces::quick::usual_fall` meets its contract.
 use mathlib.Core.Path.{refl}
 use Rattle.traces.proofs.Short.{fall-still, fall-shift}
 use borrow.Author.Needs.{needs}

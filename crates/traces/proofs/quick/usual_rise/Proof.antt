@@ -1,3 +1,4 @@
+-- `traces::quick::usual_rise` meets its contract.
 use Rattle.traces.proofs.Short.{rise-sorted}
 use borrow.Author.Needs.{needs}
 use Rattle.traces.proofs.quick.usual_rise.Statement.{statement}

@@ -1,3 +1,4 @@
+-- `traces::records::run_records` meets its contract.
 use Rattle.traces.specs.declared.quick.Usual.{Usual}
 use Rattle.rules.specs.declared.Event.{Event}
 use Rattle.rules.specs.Trace.{progressOf, run}

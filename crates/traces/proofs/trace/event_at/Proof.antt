@@ -1,3 +1,4 @@
+-- `traces::trace::event_at` meets its contract.
 use Prim.Native.Nat.{_+_}
 use Rattle.rules.specs.Trace.{lengthOf}
 use native.Mathlib.Omega.{arith}

@@ -1,3 +1,4 @@
+-- `traces::trace::is_bad_pin` meets its contract.
 use Rattle.rules.specs.Trace.{lengthOf}
 use native.Mathlib.Omega.{arith}
 use mathlib.Core.Path.{ap}

@@ -1,3 +1,4 @@
+-- `traces::trace::length_of` meets its contract.
 use Rattle.traces.proofs.Reading.{length-none}
 use borrow.Author.Needs.{needs}
 use Rattle.traces.proofs.trace.length_of.Statement.{statement}

@@ -1,3 +1,4 @@
+-- `traces::trace::one` meets its contract.
 use Rattle.rules.specs.World.{worldOf}
 use Rattle.rules.specs.Trace.{lengthOf}
 use borrow.Author.Tests.{leb-false}

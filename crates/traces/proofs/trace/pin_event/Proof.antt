@@ -1,3 +1,4 @@
+-- `traces::trace::pin_event` meets its contract.
 use Rattle.traces.proofs.Reading.{pin-clock, pin-data, pin-select, pin-hold, pin-protect}
 use borrow.Author.Needs.{needs}
 use Rattle.traces.proofs.trace.pin_event.Statement.{statement}

@@ -1,3 +1,4 @@
+-- `traces::trace::refused` meets its contract.
 use native.Mathlib.Omega.{arith}
 use Rattle.traces.proofs.Reading.{refused-head, refused-kind, refused-length, refused-body, refused-pin, refused-full, refused-event, length-small}
 use borrow.Author.Needs.{needs}

@@ -1,3 +1,4 @@
+-- `wire::receive::address_after` meets its contract.
 use Rattle.wire.proofs.Taking.{code-address, last-address, more-address, rolled-address, same-address}
 use borrow.Author.Needs.{needs}
 use Rattle.wire.proofs.receive.address_after.Statement.{statement}

@@ -1,3 +1,4 @@
+-- `wire::receive::code_clears` meets its contract.
 use borrow.Author.Needs.{needs}
 use Rattle.wire.proofs.receive.code_clears.Statement.{statement}
 use Rattle.wire.proofs.receive.code_clears.Tie as tie

@@ -1,3 +1,4 @@
+-- `wire::receive::command_after` meets its contract.
 use Rattle.wire.proofs.Taking.{code-command, lock-command, same-command}
 use borrow.Author.Needs.{needs}
 use Rattle.wire.proofs.receive.command_after.Statement.{statement}

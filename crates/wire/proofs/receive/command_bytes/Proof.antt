@@ -1,3 +1,4 @@
+-- `wire::receive::command_bytes` meets its contract.
 use Rattle.wire.proofs.Taking.{bytes-addressed, bytes-bare}
 use borrow.Author.Needs.{needs}
 use Rattle.wire.proofs.receive.command_bytes.Statement.{statement}

@@ -1,3 +1,4 @@
+-- `wire::receive::holds_latch` meets its contract.
 use borrow.Author.Needs.{needs}
 use Rattle.wire.proofs.receive.holds_latch.Statement.{statement}
 use Rattle.wire.proofs.receive.holds_latch.Tie as tie

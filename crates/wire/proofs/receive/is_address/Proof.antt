@@ -1,3 +1,4 @@
+-- `wire::receive::is_address` meets its contract.
 use borrow.Author.Needs.{needs}
 use Rattle.wire.proofs.receive.is_address.Statement.{statement}
 use Rattle.wire.proofs.receive.is_address.Tie as tie

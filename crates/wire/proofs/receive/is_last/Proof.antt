@@ -1,3 +1,4 @@
+-- `wire::receive::is_last` meets its contract.
 use borrow.Author.Needs.{needs}
 use Rattle.wire.proofs.receive.is_last.Statement.{statement}
 use Rattle.wire.proofs.receive.is_last.Tie as tie

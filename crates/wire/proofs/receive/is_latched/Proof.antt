@@ -1,3 +1,4 @@
+-- `wire::receive::is_latched` meets its contract.
 use borrow.Author.Needs.{needs}
 use Rattle.wire.proofs.receive.is_latched.Statement.{statement}
 use Rattle.wire.proofs.receive.is_latched.Tie as tie

@@ -1,3 +1,4 @@
+-- `wire::receive::latch_after` meets its contract.
 use Rattle.wire.proofs.Taking.{code-clears, code-keeps, byte-marks, byte-keeps}
 use borrow.Author.Needs.{needs}
 use Rattle.wire.proofs.receive.latch_after.Statement.{statement}

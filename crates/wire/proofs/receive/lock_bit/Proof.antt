@@ -1,3 +1,4 @@
+-- `wire::receive::lock_bit` meets its contract.
 use Rattle.wire.proofs.Taking.{lock-one, lock-more}
 use borrow.Author.Needs.{needs}
 use Rattle.wire.proofs.receive.lock_bit.Statement.{statement}

@@ -1,3 +1,4 @@
+-- `wire::receive::mark` meets its contract.
 use Rattle.rules.proofs.Widths.{page-positive}
 use lib.ListN.{length-set}
 use native.Mathlib.Nat.{mod-lt}

@@ -1,3 +1,4 @@
+-- `wire::receive::rise` meets its contract.
 use Rattle.wire.proofs.Taking.{rise-none, rise-bit, rise-byte}
 use borrow.Author.Needs.{needs}
 use Rattle.wire.proofs.receive.rise.Statement.{statement}

@@ -1,3 +1,4 @@
+-- `wire::receive::start_address` meets its contract.
 use borrow.Author.Needs.{needs}
 use Rattle.wire.proofs.receive.start_address.Statement.{statement}
 use Rattle.wire.proofs.receive.start_address.Tie as tie

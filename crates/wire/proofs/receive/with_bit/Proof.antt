@@ -1,3 +1,4 @@
+-- `wire::receive::with_bit` meets its contract.
 use Rattle.rules.specs.Receive.{inputAfter}
 use Prim.Native.Nat.{ℕ}
 use mathlib.Core.Path.{_∙_, ap}

@@ -1,3 +1,4 @@
+-- `wire::send::bit_out` meets its contract.
 use borrow.Author.Needs.{needs}
 use Rattle.wire.proofs.send.bit_out.Statement.{statement}
 use Rattle.wire.proofs.send.bit_out.Tie as tie

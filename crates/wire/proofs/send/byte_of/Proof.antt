@@ -1,3 +1,4 @@
+-- `wire::send::byte_of` meets its contract.
 use Rattle.rules.specs.World.{number}
 use mathlib.Core.Bool.{Bool}
 use Prim.Native.Nat.{_+_, _*_}

@@ -1,3 +1,4 @@
+-- `wire::send::fall` meets its contract.
 use Rattle.rules.proofs.Received.{shown-inside}
 use Prim.Native.Nat.{ℕ, _<_}
 use mathlib.Core.Path.{sym, subst}

@@ -1,3 +1,4 @@
+-- `wire::send::going_on` meets its contract.
 use mathlib.Core.Path.{refl}
 use Rattle.wire.proofs.Sending.{going-by}
 use borrow.Author.Needs.{needs}

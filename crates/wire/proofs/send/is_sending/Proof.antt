@@ -1,3 +1,4 @@
+-- `wire::send::is_sending` meets its contract.
 use borrow.Author.Needs.{needs}
 use Rattle.wire.proofs.send.is_sending.Statement.{statement}
 use Rattle.wire.proofs.send.is_sending.Tie as tie

@@ -1,3 +1,4 @@
+-- `wire::send::output_after` meets its contract.
 use native.Mathlib.Omega.{arith}
 use Rattle.wire.proofs.Sending.{output-past, output-byte, output-bit, not-past}
 use borrow.Author.Needs.{needs}

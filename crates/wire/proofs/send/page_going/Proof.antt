@@ -1,3 +1,4 @@
+-- `wire::send::page_going` meets its contract.
 use Rattle.wire.proofs.Sending.{page-inside, page-past}
 use borrow.Author.Needs.{needs}
 use Rattle.wire.proofs.send.page_going.Statement.{statement}

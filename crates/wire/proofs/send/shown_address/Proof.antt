@@ -1,3 +1,4 @@
+-- `wire::send::shown_address` meets its contract.
 use Rattle.wire.proofs.Sending.{shown-next, shown-same}
 use borrow.Author.Needs.{needs}
 use Rattle.wire.proofs.send.shown_address.Statement.{statement}

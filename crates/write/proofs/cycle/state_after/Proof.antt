@@ -1,3 +1,4 @@
+-- `write::cycle::state_after` meets its contract.
 use Rattle.write.proofs.Passing.{wait-goes, wait-ends}
 use borrow.Author.Needs.{needs}
 use Rattle.write.proofs.cycle.state_after.Statement.{statement}

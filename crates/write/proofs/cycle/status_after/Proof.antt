@@ -1,3 +1,4 @@
+-- `write::cycle::status_after` meets its contract.
 use mathlib.Core.Path.{sym}
 use Rattle.rules.proofs.Choice.{if-yes, if-no}
 use Rattle.write.proofs.cycle.status_after.Statement.{statement}

@@ -1,3 +1,4 @@
+-- `write::cycle::wait` meets its contract.
 use native.Mathlib.Omega.{arith}
 use Rattle.write.proofs.Passing.{wait-cells, wait-page, wait-none, page-room}
 use borrow.Author.Needs.{needs}

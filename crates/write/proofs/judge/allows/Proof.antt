@@ -1,3 +1,4 @@
+-- `write::judge::allows` meets its contract.
 use Rattle.rules.specs.Judge.{allows}
 use mathlib.Core.Path.{refl}
 use Rattle.write.proofs.Deciding.{allows-by}

@@ -1,3 +1,4 @@
+-- `write::judge::is_done` meets its contract.
 use Rattle.rules.specs.Judge.{isDone, isWhole}
 use borrow.Author.Needs.{needs}
 use Rattle.write.proofs.judge.is_done.Statement.{statement}

@@ -1,3 +1,4 @@
+-- `write::judge::is_protected` meets its contract.
 use Rattle.rules.specs.Judge.{isProtected}
 use mathlib.Core.Path.{refl}
 use borrow.Author.Needs.{needs}

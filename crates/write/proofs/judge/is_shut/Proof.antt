@@ -1,3 +1,4 @@
+-- `write::judge::is_shut` meets its contract.
 use borrow.Author.Needs.{needs}
 use Rattle.write.proofs.judge.is_shut.Statement.{statement}
 use Rattle.write.proofs.judge.is_shut.Tie as tie

@@ -1,3 +1,4 @@
+-- `write::judge::judge` meets its contract.
 use Rattle.write.proofs.Deciding.{judge-none, judge-latch, judge-start}
 use borrow.Author.Needs.{needs}
 use Rattle.write.proofs.judge.judge.Statement.{statement}

@@ -1,3 +1,4 @@
+-- `write::judge::next_of` meets its contract.
 use mathlib.Core.Path.{_∙_, sym}
 use Rattle.rules.proofs.Choice.{if-yes, if-no}
 use borrow.Author.Needs.{needs}

@@ -1,3 +1,4 @@
+-- `write::judge::start_of` meets its contract.
 use native.Mathlib.Nat.{mod-le}
 use native.Mathlib.Omega.{arith}
 use mathlib.Core.Path.{refl}
