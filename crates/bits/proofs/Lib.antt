@@ -1,1 +1,2 @@
+-- The laws that tie masks and shifts to arithmetic.
 pub mod Masks

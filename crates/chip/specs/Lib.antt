@@ -1,1 +1,2 @@
+-- What the inner contracts of this crate cite.
 pub mod Alone

@@ -1,2 +1,3 @@
+-- The laws of the public calls, and that their outcomes are unique.
 pub mod Calling
 pub mod Unique

@@ -1,3 +1,4 @@
+-- The theorems on the rules, and the laws that they rest on.
 pub mod Choice
 pub mod Examples
 pub mod Incident

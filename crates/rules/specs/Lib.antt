@@ -1,3 +1,4 @@
+-- The rules of document 01, in its order, then what is stated about them: examples, refusals, demand 3.
 pub mod World
 pub mod Device
 pub mod Instruction

@@ -1,1 +1,2 @@
+-- The laws of looking up.
 pub mod Looks

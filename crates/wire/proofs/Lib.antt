@@ -1,2 +1,3 @@
+-- The laws of the two edges of the clock.
 pub mod Sending
 pub mod Taking

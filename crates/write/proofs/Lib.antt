@@ -1,2 +1,3 @@
+-- The laws of judging and of waiting.
 pub mod Deciding
 pub mod Passing
