@@ -14,17 +14,28 @@ fn prepares() {
     check::expect(bad.number == 1);
 }
 
-// A page of a device that is not there is refused with 1.
-fn shows() {
+// The cell page that holds address 40 is shown, and an address past the cells is refused with 13.
+fn shows_cell_page() {
     let cells = [0u8; 512];
-    let identification = [0u8; 16];
-    let mut number: usize = 0;
-    let page = m95::cell_page(1, &cells, 512, &mut number);
+    let mut number: usize = 9;
+    let page = m95::cell_page(1, &cells, 40, &mut number);
+    check::expect(number == 0);
+    check::expect(page.len() == 16);
+    let past = m95::cell_page(1, &cells, 512, &mut number);
     check::expect(number == 13);
-    check::expect(page.len() == 0);
-    let other = m95::identification_page(0, &identification, &mut number);
+    check::expect(past.len() == 0);
+}
+
+// The identification page is shown, and that of a device that is not there is refused with 1.
+fn shows_identification_page() {
+    let identification = [0u8; 16];
+    let mut number: usize = 9;
+    let page = m95::identification_page(1, &identification, &mut number);
+    check::expect(number == 0);
+    check::expect(page.len() == 16);
+    let none = m95::identification_page(0, &identification, &mut number);
     check::expect(number == 1);
-    check::expect(other.len() == 0);
+    check::expect(none.len() == 0);
 }
 
 // An event on a prepared device, and on none.
@@ -92,7 +103,8 @@ fn runs() {
 
 fn main() {
     prepares();
-    shows();
+    shows_cell_page();
+    shows_identification_page();
     replies();
     runs();
 }

@@ -37,7 +37,7 @@ pub struct Replied {
 }
 
 // 1 to 4: no such device; cells, identification page or latch of a wrong length. 0 otherwise.
-pub fn lent_refused(device: u8, cells: &[u8], identification: &[u8], latch: &[u8]) -> usize
+fn lent_refused(device: u8, cells: &[u8], identification: &[u8], latch: &[u8]) -> usize
     ensures { λ r. ⌜ r ≡ lentRefusal device (now (cells .entry)) (now (identification .entry)) (now (latch .entry)) ⌝ }
 {
     let row = tables::row_of(device);
@@ -58,13 +58,7 @@ pub fn lent_refused(device: u8, cells: &[u8], identification: &[u8], latch: &[u8
 }
 
 // 1 to 5: those, or a state that is not sound, or a mark that is not 0 or 1.
-pub fn world_refused(
-    device: u8,
-    s: State,
-    cells: &[u8],
-    identification: &[u8],
-    latch: &[u8],
-) -> usize
+fn world_refused(device: u8, s: State, cells: &[u8], identification: &[u8], latch: &[u8]) -> usize
     ensures { λ r. ⌜ r ≡ worldRefusal device (worldOf s (now (cells .entry)) (now (identification .entry)) (now (latch .entry))) ⌝ }
 {
     let number = lent_refused(device, cells, identification, latch);
