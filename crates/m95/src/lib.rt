@@ -5,6 +5,7 @@ ghost use mathlib.Core.Path.{_≡_};
 ghost use mathlib.Core.List.{[]};
 ghost use Rattle.rules.specs.World.{worldOf};
 ghost use Rattle.rules.specs.Device.{preparedState};
+ghost use Rattle.rules.specs.Send.{statusByte};
 ghost use Rattle.rules.specs.Trace.{progressOf};
 ghost use Rattle.rules.specs.Call.{lentRefusal, worldRefusal, preparedAs, prepareOutcome, repliedAs, eventOutcome, runOutcome, shownAs, cellPageOutcome, identificationPageOutcome};
 use rules::Command;
@@ -213,6 +214,16 @@ pub fn run(
     }
     let row = tables::row_of(device);
     traces::records::run_records(row, s, cells, identification, latch, trace, answers, limit)
+}
+
+// The byte that RDSR would send in a state, sound or not.
+pub fn status_byte(s: State) -> usize
+    ensures { λ r. ⌜ r ≡ statusByte s ⌝ }
+{
+    let stored = s.registers.status as usize;
+    let wel = s.registers.wel as usize;
+    let busy = wire::receive::is_busy(s) as usize;
+    stored + wel * 2 + busy
 }
 
 // The cell page that holds an address: a part of the cells, and its number.

@@ -6,7 +6,9 @@ pub mod Inside
 pub mod Latch
 pub mod Preserved
 pub mod Received
+pub mod Program
 pub mod Refusals
+pub mod Runs
 pub mod Same
 pub mod Selections
 pub mod Soundness

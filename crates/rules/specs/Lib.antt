@@ -10,6 +10,7 @@ pub mod Event
 pub mod Sound
 pub mod Trace
 pub mod Call
+pub mod Program
 pub mod Examples
 pub mod Selections
 pub mod Refusals

@@ -1,19 +1,17 @@
 -- Reading a record, one law for each way through the rules.
 use Prim.Native.Nat.{ℕ, zero, suc, _+_, _-_, _*_, _/_, _≤_, _<_}
 use mathlib.Core.Path.{_≡_, refl, sym, ap, _∙_}
-use mathlib.Core.Bool.{Bool, true, false, not}
+use mathlib.Core.Bool.{Bool, true, false}
 use mathlib.Core.List.{List}
 use native.Mathlib.Omega.{arith}
-use lib.ListN.{getD, set, length}
-use lib.Dec.{eqb, leb, ltb}
-use borrow.Author.Tests.{eq-eqb, ne-eqb, lt-ltb, le-ltb, lt-leb, eqb-true, ltb-false, not-false}
-use Rattle.rules.specs.declared.Row.{Row}
+use lib.ListN.{getD, length}
+use lib.Dec.{ltb}
+use borrow.Author.Tests.{eq-eqb, ne-eqb, lt-ltb, le-ltb}
 use Rattle.rules.specs.declared.Event.{Event}
 use Rattle.rules.specs.declared.State.{State}
-use Rattle.rules.specs.World.{if_then_else_, bit, World}
-use Rattle.rules.specs.Event.{step, answer, refusal}
-use Rattle.rules.proofs.Choice.{if-elim}
-use Rattle.rules.specs.Trace.{two, lengthOf, pinEvent, eventAt, badPin, recordRefusal, answerByte, progressOf, turn}
+use Rattle.rules.specs.World.{if_then_else_, bit}
+use Rattle.rules.specs.Event.{refusal}
+use Rattle.rules.specs.Trace.{two, lengthOf, pinEvent, eventAt, badPin, recordRefusal}
 
 pub length-none : (k : ℕ) → (k ≡ 1 → ⊥) → (k ≡ 2 → ⊥) → (k ≡ 3 → ⊥) → 0 ≡ lengthOf k
 length-none zero a b c = refl
@@ -95,55 +93,8 @@ module _ (t : List ℕ) (at : ℕ) (full : Bool) (s : State) where
       pub refused-event : (n : ℕ) (e : Event) → bad ≡ false → full ≡ false → e ≡ eventAt t at → n ≡ refusal e s → n ≡ recordRefusal t at full s
       refused-event n e h f ee en = en ∙ sym (past (refusal e s) (rw (h, f, ← ee)))
 
--- What is known of a record that is not refused.
-pub record Ready (t : List ℕ) (at : ℕ) (full : Bool) (s : State) : Type 0 where
-  pub head : 4 ≤ length t - at
-  pub size : two t at ≡ lengthOf (two t (at + 2))
-  pub body : 2 + two t at ≤ length t - at
-  pub room : full ≡ false
-  pub taken : refusal (eventAt t at) s ≡ 0
-
-pub ready : (t : List ℕ) (at : ℕ) (full : Bool) (s : State) → recordRefusal t at full s ≡ 0 → Ready t at full s
-unfolding recordRefusal
-ready t at full s =
-    let left = length t - at in
-    let kind = two t (at + 2) in
-    let P : ℕ → Type 0 = λ (n : ℕ). n ≡ 0 → Ready t at full s in
-    if-elim P (ltb left 4) (λ _ e. absurd (omega arith))
-    (λ h4. if-elim P (eqb (lengthOf kind) 0) (λ _ e. absurd (omega arith))
-    (λ hk. if-elim P (not (eqb (two t at) (lengthOf kind))) (λ _ e. absurd (omega arith))
-    (λ hs. if-elim P (ltb left (2 + two t at)) (λ _ e. absurd (omega arith))
-    (λ hb. if-elim P (badPin t at kind) (λ _ e. absurd (omega arith))
-    (λ hp. if-elim P full (λ _ e. absurd (omega arith))
-    (λ hf e.
-    record {
-      head = ltb-false left 4 h4;
-      size = eqb-true (two t at) (lengthOf kind) (not-false (eqb (two t at) (lengthOf kind)) hs);
-      body = ltb-false left (2 + two t at) hb;
-      room = hf;
-      taken = e;
-    }))))))
-
--- One turn.
-module _ (row : Row) (t : List ℕ) (at k : ℕ) (w : World) (a : List ℕ) (h : at < length t) where
-  pub turn-refused : (n : ℕ) → n ≡ recordRefusal t at (leb (length a) k) (w .state) → (n ≡ 0 → ⊥) → progressOf n at k w a ≡ turn row t (progressOf 0 at k w a)
-  unfolding turn
-  turn-refused n e z = rw (lt-leb (length t) at h, ← e, ne-eqb n 0 z)
-
-  pub turn-does : (size b : ℕ) (e : Event) (u : World) → recordRefusal t at (leb (length a) k) (w .state) ≡ 0 → size ≡ two t at → e ≡ eventAt t at → u ≡ step row e w → b ≡ answerByte (answer (u .state))
-      → progressOf 0 (at + 2 + size) (k + 1) u (set a k b) ≡ turn row t (progressOf 0 at k w a)
-  unfolding turn
-  turn-does size b e u r es ee eu eb = rw (lt-leb (length t) at h, r, es, eb, eu, ee)
-
 pub pin-first : (t : List ℕ) (at kind : ℕ) → kind ≡ 1 → ltb 9 (getD t (at + 4) 0) ≡ badPin t at kind
 pin-first t at kind h = rw h
-
-pub length-small : (k : ℕ) → lengthOf k ≤ 6
-length-small zero = omega arith
-length-small (suc zero) = omega arith
-length-small (suc (suc zero)) = omega arith
-length-small (suc (suc (suc zero))) = omega arith
-length-small (suc (suc (suc (suc k)))) = omega arith
 
 pub two-small : (t : List ℕ) (at n : ℕ) → n ≡ two t at → ((i : ℕ) → getD t i 0 < 256) → n < 65536
 two-small t at n e h = omega (arith, e, h at, h (at + 1))

@@ -1,5 +1,5 @@
 -- What holds at every turn of a run, and how one turn keeps it.
-use Prim.Native.Nat.{ℕ, zero, suc, _+_, _-_, _≤_, _<_}
+use Prim.Native.Nat.{ℕ, _+_, _-_, _≤_, _<_}
 use mathlib.Core.Path.{_≡_, refl, sym, ap, _∙_, subst}
 use mathlib.Core.Bool.{Bool, true, false}
 use mathlib.Core.List.{List}
@@ -15,8 +15,8 @@ use Rattle.rules.specs.Sound.{Sound, Lent}
 use Rattle.rules.specs.Event.{step, answer, refusal}
 use Rattle.rules.specs.Trace.{two, pinEvent, eventAt, recordRefusal, answerByte, Progress, progressOf, turn, run}
 use Rattle.rules.proofs.Preserved.{preserved}
+use Rattle.rules.proofs.Runs.{turn-does, run-stays, run-turn}
 use Rattle.traces.specs.Quick.{IsPin}
-use Rattle.traces.proofs.Reading.{turn-does}
 use Rattle.traces.proofs.Short.{pin-done}
 
 pub record Kept (row : Row) (t : List ℕ) (limit : ℕ) (w₀ : World) (a₀ : List ℕ) (w : World) (a : List ℕ) (at n : ℕ) : Type 0 where
@@ -25,14 +25,6 @@ pub record Kept (row : Row) (t : List ℕ) (limit : ℕ) (w₀ : World) (a₀ : 
   pub long : length a ≡ length a₀
   pub below : n ≤ limit
   pub same : run limit row t (progressOf 0 0 0 w₀ a₀) ≡ run (limit - n) row t (progressOf 0 at n w a)
-
--- A run that is over stays.
-run-stays : (k : ℕ) (row : Row) (t : List ℕ) (p : Progress) → turn row t p ≡ p → run k row t p ≡ p
-run-stays zero row t p e = refl
-run-stays (suc k) row t p e = ap (run k row t) e ∙ run-stays k row t p e
-
-run-turn : (limit n : ℕ) (row : Row) (t : List ℕ) (p : Progress) → n < limit → run (limit - n) row t p ≡ run (limit - (n + 1)) row t (turn row t p)
-run-turn limit n row t p h = let e : limit - n ≡ suc (limit - (n + 1)) = omega arith in ap (λ (k : ℕ). run k row t p) e
 
 module _ (row : Row) (t : List ℕ) (limit : ℕ) (w₀ : World) (a₀ : List ℕ) (w : World) (a : List ℕ) (at n : ℕ) (k : Kept row t limit w₀ a₀ w a at n) where
   pub ends-trace : length t ≤ at → progressOf 0 at n w a ≡ run limit row t (progressOf 0 0 0 w₀ a₀)

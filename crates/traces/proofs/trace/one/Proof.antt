@@ -6,7 +6,7 @@ use lib.ListN.{length}
 use lib.Dec.{leb}
 use native.Mathlib.Omega.{arith}
 use mathlib.Core.Path.{ap, sym, _∙_}
-use Rattle.traces.proofs.Reading.{ready, turn-refused, turn-does}
+use Rattle.rules.proofs.Runs.{ready, turn-refused, turn-does}
 use borrow.Author.Needs.{needs}
 use Rattle.traces.proofs.trace.one.Statement.{statement}
 use Rattle.traces.proofs.trace.one.Tie as tie

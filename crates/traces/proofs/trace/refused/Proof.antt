@@ -1,6 +1,7 @@
 -- `traces::trace::refused` meets its contract.
 use native.Mathlib.Omega.{arith}
-use Rattle.traces.proofs.Reading.{refused-head, refused-kind, refused-length, refused-body, refused-pin, refused-full, refused-event, length-small}
+use Rattle.rules.proofs.Runs.{length-small}
+use Rattle.traces.proofs.Reading.{refused-head, refused-kind, refused-length, refused-body, refused-pin, refused-full, refused-event}
 use borrow.Author.Needs.{needs}
 use Rattle.traces.proofs.trace.refused.Statement.{statement}
 use Rattle.traces.proofs.trace.refused.Tie as tie

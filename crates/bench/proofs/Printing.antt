@@ -1,0 +1,166 @@
+-- The first record, one law for each way through the rules; the run of the trace; and the text as one piece.
+use Prim.Native.Nat.{ℕ, zero, suc, _+_, _*_, _≤_, _<_}
+use mathlib.Core.Path.{_≡_, refl, sym, ap, _∙_, subst}
+use mathlib.Core.Bool.{Bool, true, false, not, _&&_}
+use mathlib.Core.List.{List, _++_}
+use native.Mathlib.Omega.{arith}
+use lib.ListN.{length, getD, take, drop, replicate, length-append, length-take}
+use lib.Dec.{eqb, leb, ltb, lit≤}
+use lib.Seq.{take-append-le}
+use borrow.Author.Tests.{eq-eqb, ne-eqb, lt-ltb, le-ltb, eqb-true, leb-true, ltb-false, le-leb, not-false}
+use Rattle.rules.specs.World.{if_then_else_, bit, number, World}
+use Rattle.rules.specs.declared.Row.{Row}
+use Rattle.rules.specs.Device.{isDevice, rowOf, prepared}
+use Rattle.rules.specs.Instruction.{busy}
+use Rattle.rules.specs.Send.{statusByte}
+use Rattle.rules.specs.Sound.{Sound}
+use Rattle.rules.specs.Trace.{two, Progress}
+use Rattle.rules.specs.Call.{lentRefusal, preparedAs, prepareOutcome, runOutcome, firstRecord}
+use Rattle.rules.specs.Program.{hexadecimal, header, lines, ended, unknown, benchRun, runText, benchText}
+use Rattle.rules.proofs.Choice.{if-elim, and-left, and-right}
+use Rattle.rules.proofs.Program.{bench-course}
+use Rattle.rules.proofs.Runs.{Course}
+use Rattle.m95.proofs.Calling.{lent-good}
+use Rattle.io.specs.Counts.{Counts}
+use Rattle.text.specs.Put.{Put}
+
+-- The first record.
+module _ (input : List ℕ) where
+  pub first-long : 32_768 < length input → 12 ≡ firstRecord input .number
+  unfolding firstRecord
+  first-long h = rw (lt-ltb 32_768 (length input) h)
+
+  module _ (a : length input ≤ 32_768) where
+    pub first-head : length input < 4 → 6 ≡ firstRecord input .number
+    unfolding firstRecord
+    first-head h = rw (le-ltb 32_768 (length input) a, lt-ltb (length input) 4 h)
+
+    module _ (b : 4 ≤ length input) (kind : ℕ) (ek : kind ≡ two input 2) where
+      pub first-kind : (kind ≡ 16 → ⊥) → 7 ≡ firstRecord input .number
+      unfolding firstRecord
+      first-kind h = rw (le-ltb 32_768 (length input) a, le-ltb (length input) 4 b, ← ek, ne-eqb kind 16 h)
+
+      module _ (c : kind ≡ 16) (size : ℕ) (es : size ≡ two input 0) where
+        pub first-length : (size ≡ 3 → ⊥) → 8 ≡ firstRecord input .number
+        unfolding firstRecord
+        first-length h = rw (le-ltb 32_768 (length input) a, le-ltb (length input) 4 b, ← ek, c, ← es, ne-eqb size 3 h)
+
+        module _ (d : size ≡ 3) where
+          pub first-body : length input < 5 → 6 ≡ firstRecord input .number
+          unfolding firstRecord
+          first-body h = rw (le-ltb 32_768 (length input) a, le-ltb (length input) 4 b, ← ek, c, ← es, d, lt-ltb (length input) 5 h)
+
+          module _ (e : 5 ≤ length input) where
+            pub first-device : not (leb 1 (getD input 4 0) && leb (getD input 4 0) 2) ≡ true → 1 ≡ firstRecord input .number
+            unfolding firstRecord
+            first-device h = rw (le-ltb 32_768 (length input) a, le-ltb (length input) 4 b, ← ek, c, ← es, d, le-ltb (length input) 5 e, h)
+
+            pub first-good : not (leb 1 (getD input 4 0) && leb (getD input 4 0) 2) ≡ false → 0 ≡ firstRecord input .number
+            unfolding firstRecord
+            first-good h = rw (le-ltb 32_768 (length input) a, le-ltb (length input) 4 b, ← ek, c, ← es, d, le-ltb (length input) 5 e, h)
+
+-- What is known where it is not refused.
+pub record Named (input : List ℕ) : Type 0 where
+  pub long : 5 ≤ length input
+  pub fits : length input ≤ 32_768
+  pub least : 1 ≤ getD input 4 0
+  pub most : getD input 4 0 ≤ 2
+
+pub named : (input : List ℕ) → firstRecord input .number ≡ 0 → Named input
+unfolding firstRecord
+named input =
+    let device = getD input 4 0 in
+    let P : ℕ → Type 0 = λ (n : ℕ). n ≡ 0 → Named input in
+    if-elim P (ltb 32_768 (length input)) (λ _ e. absurd (omega arith))
+    (λ a. if-elim P (ltb (length input) 4) (λ _ e. absurd (omega arith))
+    (λ b. if-elim P (not (eqb (two input 2) 16)) (λ _ e. absurd (omega arith))
+    (λ c. if-elim P (not (eqb (two input 0) 3)) (λ _ e. absurd (omega arith))
+    (λ d. if-elim P (ltb (length input) 5) (λ _ e. absurd (omega arith))
+    (λ f. if-elim P (not (leb 1 device && leb device 2)) (λ _ e. absurd (omega arith))
+    (λ g e.
+    let both = not-false (leb 1 device && leb device 2) g in
+    record {
+      long = ltb-false (length input) 5 f;
+      fits = ltb-false 32_768 (length input) a;
+      least = leb-true 1 device (and-left (leb 1 device) (leb device 2) both);
+      most = leb-true device 2 (and-right (leb 1 device) (leb device 2) both);
+    }))))))
+
+-- A run of the whole trace on what preparing left is the bench's.
+pub is-bench : (device n : ℕ) (cells identification latch : List ℕ) (w : World) (trace answers zeros : List ℕ) (p : Progress) → lentRefusal device cells identification latch ≡ 0
+    → preparedAs n w ≡ prepareOutcome device cells identification latch → length answers ≡ length trace → zeros ≡ replicate (length answers) 0 → p ≡ runOutcome device w trace zeros (length trace)
+    → p ≡ benchRun device trace
+unfolding prepareOutcome benchRun
+is-bench device n cells identification latch w trace answers zeros p z ew el ez ep =
+    let e : w ≡ prepared (rowOf device) = ap (λ x. x .world) ew ∙ rw z in
+    ep ∙ rw (ez, el, e)
+
+-- The last line with the status of a state.
+pub status-end : {a b : List ℕ} {i j : ℕ} (number : ℕ) (status : List ℕ) (byte s : ℕ) → status ≡ hexadecimal byte → byte ≡ s → Put a i (ended number status) b j → Put a i (ended number (hexadecimal s)) b j
+status-end {a} {b} {i} {j} number status byte s e f p = subst (λ (t : List ℕ). Put a i (ended number t) b j) (e ∙ ap hexadecimal f) p
+
+-- What the first two devices need of the room.
+pub room : (device : ℕ) (row : Row) → row ≡ rowOf device → 1 ≤ device → device ≤ 2 → (row .cells ≤ 16_384) × (row .page ≤ 64)
+room zero row e a b = absurd (omega arith)
+room (suc zero) row e a b = rw e (lit≤ tt, lit≤ tt)
+room (suc (suc zero)) row e a b = rw e (lit≤ tt, lit≤ tt)
+room (suc (suc (suc d))) row e a b = absurd (omega arith)
+
+pub a-device : (device : ℕ) → 1 ≤ device → device ≤ 2 → isDevice device ≡ true
+a-device device a b = rw (le-leb 1 device a, le-leb device 4 (omega arith))
+
+-- The status of a sound state is a byte.
+status-small : (row : Row) (w : World) → Sound row w → statusByte (w .state) < 256
+status-small row w h = omega (arith, h .unsettled .stored, flag (row .srwd && bit (w .state .registers .status) 7), flag (w .state .registers .wel), flag (busy (w .state)))
+  where
+    flag : (b : Bool) → number b ≤ 1
+    flag true = omega arith
+    flag false = omega arith
+
+-- A run of the bench: how many records it can have done, and that its state's status is a byte.
+module _ (device : ℕ) (trace : List ℕ) (p : Progress) (a : 1 ≤ device) (b : device ≤ 2) (e : p ≡ benchRun device trace) where
+  ran : Course (rowOf device) trace (length trace) (length trace) p
+  ran = subst (Course (rowOf device) trace (length trace) (length trace)) (sym e) (bench-course device trace (a-device device a b))
+
+  pub ran-few : p .done * 4 ≤ length trace
+  ran-few = omega (arith, ran .few, ran .inside)
+
+  ran-long : length (p .answers) ≡ length trace
+  ran-long = ran .long
+
+  pub ran-room : (rest : List ℕ) → p .done ≤ length (p .answers ++ rest)
+  ran-room rest = rw (length-append (p .answers) rest) (omega (arith, ran-few, ran-long))
+
+  pub ran-status : statusByte (p .world .state) < 256
+  ran-status = status-small (rowOf device) (p .world) (ran .sound)
+
+  -- Its text, from the answers with whatever follows them.
+  pub ran-text : (rest : List ℕ) {before after : List ℕ} {next : ℕ} → Put before 0 (header ++ lines 1 (take (p .done) (p .answers ++ rest)) ++ ended (p .number) (hexadecimal (statusByte (p .world .state)))) after next
+      → Put before 0 (runText (benchRun device trace)) after next
+  unfolding runText
+  ran-text rest {before} {after} {next} h =
+      let same : take (p .done) (p .answers ++ rest) ≡ take (p .done) (p .answers) = take-append-le (p .done) (p .answers) rest (omega (arith, ran-few, ran-long)) in
+      subst (λ (t : List ℕ). Put before 0 t after next) (ap (λ (t : List ℕ). header ++ lines 1 t ++ ended (p .number) (hexadecimal (statusByte (p .world .state)))) same ∙ ap runText e) h
+
+pub lent-room : (device : ℕ) (row : Row) → row ≡ rowOf device → 1 ≤ device → device ≤ 2 → (cells identification latch : List ℕ) → length cells ≡ row .cells → length identification ≡ row .page → length latch ≡ row .page + row .page
+    → lentRefusal device cells identification latch ≡ 0
+lent-room device row e a b cells identification latch ec ei el = sym (lent-good device row true e (sym (a-device device a b)) cells identification latch refl ec ei el)
+
+-- A text put at the start of a buffer, as what stands there and how much.
+pub whole : (before text after : List ℕ) (next : ℕ) → Put before 0 text after next → Counts next after × (take next after ≡ text)
+whole before text after next p =
+    let same : next ≡ length (take next after) = p .place ∙ rw (p .stands) (omega arith) in
+    ((omega (arith, same, length-take next after), same), p .stands)
+
+-- The whole output, where the first record is refused and where it is not.
+pub text-refused : (input : List ℕ) (n : ℕ) → n ≡ firstRecord input .number → (n ≡ 0 → ⊥) → ended n unknown ≡ benchText input
+unfolding benchText
+text-refused input n e z = rw (← e, ne-eqb n 0 z)
+
+device-is : (input : List ℕ) → firstRecord input .device ≡ getD input 4 0
+unfolding firstRecord
+device-is input = refl
+
+pub text-run : (input trace : List ℕ) (n : ℕ) → n ≡ firstRecord input .number → n ≡ 0 → trace ≡ drop 5 input → runText (benchRun (getD input 4 0) trace) ≡ benchText input
+unfolding benchText
+text-run input trace n e z t = rw (← e, z, t, device-is input)

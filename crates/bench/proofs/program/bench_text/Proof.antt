@@ -1,0 +1,80 @@
+-- `bench::program::bench_text` meets its contract.
+use Prim.Native.Nat.{ℕ, _-_}
+use mathlib.Core.Path.{_∙_, sym}
+use mathlib.Core.List.{List}
+use native.Mathlib.Omega.{arith}
+use lib.ListN.{length, drop, length-drop}
+use lib.Seq.{take-all, length-take-le}
+use Rattle.bench.proofs.Printing.{named, whole, text-refused, text-run}
+use borrow.Author.Needs.{needs}
+use Rattle.bench.proofs.program.bench_text.Statement.{statement}
+use Rattle.bench.proofs.program.bench_text.Tie as tie
+
+first-refused-requires : tie.Need-first-refused-requires
+first-refused-requires c κs = search needs
+
+slice-aggregate-put-end : tie.Need-slice-aggregate-put-end
+slice-aggregate-put-end c = search needs
+
+put-end-requires : tie.Need-put-end-requires
+put-end-requires c κs = search needs
+
+same-length : tie.Need-same-length
+same-length c = search needs
+
+returns : tie.Need-returns
+returns c = let w = whole _ _ _ _ (c .before .before .put-end .ensures) in (w .0, w .1 ∙ text-refused (c .before .before .before .before .before .before .before .before .before .before .before .before .before .args .input .now) _ (c .before .before .before .before .before .before .first-refused .ensures) (c .before .before .before .before .before .if1 .taken))
+
+shared-slice-read-device : tie.Need-shared-slice-read-device
+shared-slice-read-device c = omega (arith, named (c .before .before .before .before .before .before .before .before .before .args .input .now) (sym (c .before .before .first-refused .ensures) ∙ c .before .if1 .left) .long)
+
+sub-put-trace : tie.Need-sub-put-trace
+sub-put-trace c = named (c .before .before .before .before .before .before .before .before .before .args .input .now) (sym (c .before .before .first-refused .ensures) ∙ c .before .if1 .left) .long
+
+part-put-trace-start : tie.Need-part-put-trace-start
+part-put-trace-start c = omega (arith, named (c .before .before .before .before .before .before .before .before .before .args .input .now) (sym (c .before .before .first-refused .ensures) ∙ c .before .if1 .left) .long)
+
+part-put-trace-end : tie.Need-part-put-trace-end
+part-put-trace-end c = search needs
+
+put-trace-requires : tie.Need-put-trace-requires
+put-trace-requires c κs = let n = named (c .before .before .before .before .before .before .before .before .before .before .before .before .before .before .before .args .input .now) (sym (c .before .before .before .before .before .before .before .before .first-refused .ensures) ∙ c .before .before .before .before .before .before .before .if1 .left) in ((n .least, n .most, omega (arith, n .fits, n .long, length-drop 5 (c .before .before .before .before .before .before .before .before .before .before .before .before .before .before .before .args .input .now), length-take-le (length (c .before .before .before .before .before .before .before .before .before .before .before .before .before .before .before .args .input .now) - 5) (drop 5 (c .before .before .before .before .before .before .before .before .before .before .before .before .before .before .before .args .input .now)) (omega (arith, length-drop 5 (c .before .before .before .before .before .before .before .before .before .before .before .before .before .before .before .args .input .now))))), (c .before .before .before .before .before .before .before .before .before .before .before .before .before .before .before .pre .0, c .before .before .before .before .before .before .before .before .before .before .before .before .before .before .before .pre .1))
+
+same-length-2 : tie.Need-same-length-2
+same-length-2 c = search needs
+
+same-length-3 : tie.Need-same-length-3
+same-length-3 c = search needs
+
+same-length-4 : tie.Need-same-length-4
+same-length-4 c = search needs
+
+same-length-5 : tie.Need-same-length-5
+same-length-5 c = search needs
+
+same-length-6 : tie.Need-same-length-6
+same-length-6 c = search needs
+
+returns-2 : tie.Need-returns-2
+returns-2 c = let w = whole _ _ _ _ (c .before .before .before .before .before .before .before .before .before .before .put-trace .ensures) in (w .0, w .1 ∙ text-run (c .before .before .before .before .before .before .before .before .before .before .before .before .before .before .before .before .before .before .before .before .before .before .before .before .before .before .args .input .now) _ _ (c .before .before .before .before .before .before .before .before .before .before .before .before .before .before .before .before .before .before .before .first-refused .ensures) (c .before .before .before .before .before .before .before .before .before .before .before .before .before .before .before .before .before .before .if1 .left) (take-all (length (c .before .before .before .before .before .before .before .before .before .before .before .before .before .before .before .before .before .before .before .before .before .before .before .before .before .before .args .input .now) - 5) (drop 5 (c .before .before .before .before .before .before .before .before .before .before .before .before .before .before .before .before .before .before .before .before .before .before .before .before .before .before .args .input .now)) (omega (arith, length-drop 5 (c .before .before .before .before .before .before .before .before .before .before .before .before .before .before .before .before .before .before .before .before .before .before .before .before .before .before .args .input .now)))))
+
+pub bench-text-spec : {M : Type 1} → statement M
+bench-text-spec =
+    tie.close
+    (tie.spec
+    first-refused-requires
+    slice-aggregate-put-end
+    put-end-requires
+    same-length
+    returns
+    shared-slice-read-device
+    sub-put-trace
+    part-put-trace-start
+    part-put-trace-end
+    put-trace-requires
+    same-length-2
+    same-length-3
+    same-length-4
+    same-length-5
+    same-length-6
+    returns-2)
