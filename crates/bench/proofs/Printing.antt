@@ -4,24 +4,21 @@ use mathlib.Core.Path.{_≡_, refl, sym, ap, _∙_, subst}
 use mathlib.Core.Bool.{Bool, true, false, not, _&&_}
 use mathlib.Core.List.{List, _++_}
 use native.Mathlib.Omega.{arith}
-use lib.ListN.{length, getD, take, drop, replicate, length-append, length-take}
+use lib.ListN.{length, getD, take, drop, replicate, length-append}
 use lib.Dec.{eqb, leb, ltb, lit≤}
 use lib.Seq.{take-append-le}
 use borrow.Author.Tests.{eq-eqb, ne-eqb, lt-ltb, le-ltb, eqb-true, leb-true, ltb-false, le-leb, not-false}
-use Rattle.rules.specs.World.{if_then_else_, bit, number, World}
+use Rattle.rules.specs.World.{if_then_else_, World}
 use Rattle.rules.specs.declared.Row.{Row}
 use Rattle.rules.specs.Device.{isDevice, rowOf, prepared}
-use Rattle.rules.specs.Instruction.{busy}
 use Rattle.rules.specs.Send.{statusByte}
-use Rattle.rules.specs.Sound.{Sound}
 use Rattle.rules.specs.Trace.{two, Progress}
 use Rattle.rules.specs.Call.{lentRefusal, preparedAs, prepareOutcome, runOutcome, firstRecord}
 use Rattle.rules.specs.Program.{hexadecimal, header, lines, ended, unknown, benchRun, runText, benchText}
 use Rattle.rules.proofs.Choice.{if-elim, and-left, and-right}
 use Rattle.rules.proofs.Program.{bench-course}
 use Rattle.rules.proofs.Runs.{Course}
-use Rattle.m95.proofs.Calling.{lent-good}
-use Rattle.io.specs.Counts.{Counts}
+use Rattle.m95.proofs.Calling.{lent-good, status-small}
 use Rattle.text.specs.Put.{Put}
 
 -- The first record.
@@ -109,14 +106,6 @@ room (suc (suc (suc d))) row e a b = absurd (omega arith)
 pub a-device : (device : ℕ) → 1 ≤ device → device ≤ 2 → isDevice device ≡ true
 a-device device a b = rw (le-leb 1 device a, le-leb device 4 (omega arith))
 
--- The status of a sound state is a byte.
-status-small : (row : Row) (w : World) → Sound row w → statusByte (w .state) < 256
-status-small row w h = omega (arith, h .unsettled .stored, flag (row .srwd && bit (w .state .registers .status) 7), flag (w .state .registers .wel), flag (busy (w .state)))
-  where
-    flag : (b : Bool) → number b ≤ 1
-    flag true = omega arith
-    flag false = omega arith
-
 -- A run of the bench: how many records it can have done, and that its state's status is a byte.
 module _ (device : ℕ) (trace : List ℕ) (p : Progress) (a : 1 ≤ device) (b : device ≤ 2) (e : p ≡ benchRun device trace) where
   ran : Course (rowOf device) trace (length trace) (length trace) p
@@ -145,12 +134,6 @@ module _ (device : ℕ) (trace : List ℕ) (p : Progress) (a : 1 ≤ device) (b 
 pub lent-room : (device : ℕ) (row : Row) → row ≡ rowOf device → 1 ≤ device → device ≤ 2 → (cells identification latch : List ℕ) → length cells ≡ row .cells → length identification ≡ row .page → length latch ≡ row .page + row .page
     → lentRefusal device cells identification latch ≡ 0
 lent-room device row e a b cells identification latch ec ei el = sym (lent-good device row true e (sym (a-device device a b)) cells identification latch refl ec ei el)
-
--- A text put at the start of a buffer, as what stands there and how much.
-pub whole : (before text after : List ℕ) (next : ℕ) → Put before 0 text after next → Counts next after × (take next after ≡ text)
-whole before text after next p =
-    let same : next ≡ length (take next after) = p .place ∙ rw (p .stands) (omega arith) in
-    ((omega (arith, same, length-take next after), same), p .stands)
 
 -- The whole output, where the first record is refused and where it is not.
 pub text-refused : (input : List ℕ) (n : ℕ) → n ≡ firstRecord input .number → (n ≡ 0 → ⊥) → ended n unknown ≡ benchText input

@@ -1,7 +1,7 @@
 -- The outcome of each call, one law for each way through the rules.
 use Prim.Native.Nat.{ℕ, _+_, _-_, _*_, _%_, _≤_, _<_}
-use mathlib.Core.Path.{_≡_, sym, ap, _∙_, subst}
-use mathlib.Core.Bool.{Bool, true, false, not, true≢false}
+use mathlib.Core.Path.{_≡_, refl, sym, ap, _∙_, subst}
+use mathlib.Core.Bool.{Bool, true, false, not, _&&_, true≢false}
 use mathlib.Core.List.{List, [], _++_}
 use native.Mathlib.Nat.{mod-le, add-sub-cancel-left}
 use native.Mathlib.Omega.{arith}
@@ -11,13 +11,16 @@ use borrow.Author.Tests.{eqb-true, eq-eqb, ne-eqb, le-leb, lt-leb, not-false}
 use Rattle.rules.specs.declared.Row.{Row}
 use Rattle.rules.specs.declared.Event.{Event}
 use Rattle.rules.specs.declared.State.{State}
-use Rattle.rules.specs.World.{World, worldOf}
+use Rattle.rules.specs.World.{bit, number, World, worldOf}
 use Rattle.rules.specs.Device.{Widths, isDevice, rowOf, code, preparedState, prepared}
+use Rattle.rules.specs.Instruction.{busy}
+use Rattle.rules.specs.Send.{statusByte}
 use Rattle.rules.specs.Event.{step, answer, refusal}
 use Rattle.rules.specs.Sound.{isSound, Sound, Lent}
 use Rattle.rules.specs.Trace.{answerByte, Progress, progressOf, run}
 use Rattle.rules.specs.Call.{lentRefusal, worldRefusal, preparedAs, prepareOutcome, repliedAs, eventOutcome, runOutcome, shownAs, cellPageOutcome, identificationPageOutcome}
 use Rattle.rules.proofs.Choice.{if-elim}
+use Rattle.rules.proofs.Runs.{Course, course}
 use Rattle.rules.proofs.Soundness.{reads}
 use Rattle.rules.proofs.Widths.{of-device, start-aligned}
 use Rattle.write.proofs.Passing.{page-room}
@@ -144,6 +147,24 @@ module _ (device : ℕ) (w : World) (t a : List ℕ) (limit n : ℕ) (en : n ≡
   pub run-done : (row : Row) (q : Progress) → n ≡ 0 → row ≡ rowOf device → q ≡ run limit row t (progressOf 0 0 0 w a) → q ≡ runOutcome device w t a limit
   unfolding runOutcome
   run-done row q z er eq = eq ∙ rw (← en, z, er)
+
+-- What holds after a run that is not refused and has room for its answers.
+pub run-course : (device : ℕ) (w : World) (t a : List ℕ) (limit : ℕ) → worldRefusal device w ≡ 0 → length t ≤ length a → Course (rowOf device) t (length a) limit (runOutcome device w t a limit)
+unfolding runOutcome
+run-course device w t a limit z enough =
+    let f = fine device w z in
+    rw z (course (rowOf device) (of-device device) t (length a) enough w a (f .0) (f .1) refl limit)
+
+-- The status of a sound state is a byte.
+pub status-small : (row : Row) (w : World) → Sound row w → statusByte (w .state) < 256
+status-small row w h = omega (arith, h .unsettled .stored, flag (row .srwd && bit (w .state .registers .status) 7), flag (w .state .registers .wel), flag (busy (w .state)))
+  where
+    flag : (b : Bool) → number b ≤ 1
+    flag true = omega arith
+    flag false = omega arith
+
+pub fine-status : (device : ℕ) (w : World) → worldRefusal device w ≡ 0 → statusByte (w .state) < 256
+fine-status device w z = status-small (rowOf device) w (fine device w z .0)
 
 -- The pages.
 module _ (device : ℕ) (row : Row) (d : Bool) (er : row ≡ rowOf device) (ed : d ≡ isDevice device) where

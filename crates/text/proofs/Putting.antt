@@ -6,10 +6,11 @@ use mathlib.Core.List.{List, [], _∷_, _++_, append-assoc, append-nil}
 use native.Mathlib.Nat.{pow-suc, one-le-pow}
 use native.Mathlib.Numerals.{add-one}
 use native.Mathlib.Omega.{arith}
-use lib.ListN.{length, getD, take, length-append}
+use lib.ListN.{length, getD, take, length-append, length-take}
 use lib.Seq.{length-take-le, take-append-add, take-append-le, take-length, take-all, take-suc}
 use lib.Dec.{ltb, lit<}
 use borrow.Author.Tests.{lt-ltb, le-ltb, ltb-true, ltb-false}
+use Rattle.io.specs.Counts.{Counts}
 use Rattle.io.specs.Digits.{glyph, digits, Fewest}
 use Rattle.rules.specs.World.{if_then_else_}
 use Rattle.rules.proofs.Choice.{if-elim}
@@ -137,3 +138,9 @@ lines-put {a} {b} {c} {i} {j} {k} answers done h p q = subst (λ (t : List ℕ).
 
 pub all-put : {a b : List ℕ} {i j : ℕ} (answers : List ℕ) (done : ℕ) → length answers ≤ done → Put a i (lines 1 (take done answers)) b j → Put a i (lines 1 answers) b j
 all-put {a} {b} {i} {j} answers done h p = subst (λ (t : List ℕ). Put a i (lines 1 t) b j) (take-all done answers h) p
+
+-- A text put at the start of a buffer, as what stands there and how much.
+pub whole : (before text after : List ℕ) (next : ℕ) → Put before 0 text after next → Counts next after × (take next after ≡ text)
+whole before text after next p =
+    let same : next ≡ length (take next after) = p .place ∙ rw (p .stands) (omega arith) in
+    ((omega (arith, same, length-take next after), same), p .stands)

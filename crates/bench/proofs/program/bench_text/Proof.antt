@@ -5,7 +5,8 @@ use mathlib.Core.List.{List}
 use native.Mathlib.Omega.{arith}
 use lib.ListN.{length, drop, length-drop}
 use lib.Seq.{take-all, length-take-le}
-use Rattle.bench.proofs.Printing.{named, whole, text-refused, text-run}
+use Rattle.text.proofs.Putting.{whole}
+use Rattle.bench.proofs.Printing.{named, text-refused, text-run}
 use borrow.Author.Needs.{needs}
 use Rattle.bench.proofs.program.bench_text.Statement.{statement}
 use Rattle.bench.proofs.program.bench_text.Tie as tie

@@ -1,0 +1,192 @@
+-- A chip's file, one law for each way through the rule; the bytes that are kept; and what holds from piece to piece.
+use Prim.Native.Nat.{ℕ, zero, suc, _+_, _-_, _*_, _/_, _%_, _^_, _≤_, _<_}
+use mathlib.Core.Path.{_≡_, refl, sym, ap, _∙_, subst}
+use mathlib.Core.Bool.{Bool, true, false, not, _&&_}
+use mathlib.Core.List.{List, [], _∷_, _++_}
+use native.Mathlib.Numerals.{add-one}
+use native.Mathlib.Omega.{arith}
+use lib.ListN.{length, getD, set, take, drop, length-drop, length-append}
+use lib.Seq.{length-take-le, getD-append-add, getD-drop, drop-cons, take-suc, set-at, take-at, append-snoc}
+use lib.Dec.{eqb, leb, ltb, lit≤}
+use lib.Pow.{pow-mono}
+use borrow.Rule.Slice.PartMut.{postOf, putMid}
+use borrow.Author.Tests.{eq-eqb, ne-eqb, lt-ltb, le-ltb, le-leb, eqb-true, not-false}
+use Rattle.rules.specs.declared.Row.{Row}
+use Rattle.rules.specs.declared.State.{State}
+use Rattle.rules.specs.World.{if_then_else_, bit, number, World, worldOf}
+use Rattle.rules.specs.Device.{Widths, m95040, table, isDevice, rowOf, prepared}
+use Rattle.rules.specs.Judge.{storable}
+use Rattle.rules.specs.Sound.{Sound, Lent}
+use Rattle.rules.specs.Trace.{Progress}
+use Rattle.rules.specs.Call.{lentRefusal, worldRefusal, preparedAs, prepareOutcome, runOutcome}
+use Rattle.rules.specs.Program.{hexadecimal, ending}
+use Rattle.rules.proofs.Choice.{if-elim, and-both}
+use Rattle.rules.proofs.Program.{world-taken}
+use Rattle.rules.proofs.Runs.{Course}
+use Rattle.rules.proofs.Widths.{of-device, page-below}
+use Rattle.m95.proofs.Calling.{lent-good, run-course}
+use Rattle.rules.proofs.Incident.{prepared-sound, prepared-lent}
+use Rattle.text.specs.Put.{Put}
+use Rattle.play.specs.declared.contents.Fault.{Fault}
+use Rattle.play.specs.declared.contents.Stored.{Stored}
+use Rattle.play.specs.Stored.{storedAs, storedOf, loadedState}
+
+-- The length of a chip's file fits.
+pub file-fits : {row : Row} → Widths row → row .cells + row .page + 2 < 2 ^ 26
+file-fits {row} v = let small : 2 ^ v .cellBits ≤ 2 ^ 24 = pow-mono (v .narrow) in omega (arith, small, v .cells, page-below v)
+
+-- No status bits are bits of every device.
+pub no-bits : (row : Row) → storable row 0 ≡ 0
+no-bits row = nothing (row .srwd)
+  where
+    nothing : (srwd : Bool) → number (srwd && bit 0 7) * 128 + 0 / 4 % 4 * 4 ≡ 0
+    nothing true = refl
+    nothing false = refl
+
+-- A chip's file.
+module _ (row : Row) (n status lock : ℕ) where
+  pub stored-raw : (r : Stored) → r ≡ storedAs Fault.None 0 false → n ≡ row .cells → r ≡ storedOf row n status lock
+  unfolding storedOf
+  stored-raw r e h = e ∙ rw (eq-eqb n (row .cells) h)
+
+  module _ (a : n ≡ row .cells → ⊥) where
+    pub stored-length : (r : Stored) → r ≡ storedAs Fault.Length 0 false → (n ≡ row .cells + row .page + 2 → ⊥) → r ≡ storedOf row n status lock
+    unfolding storedOf
+    stored-length r e h = e ∙ rw (ne-eqb n (row .cells) a, ne-eqb n (row .cells + row .page + 2) h)
+
+    module _ (b : n ≡ row .cells + row .page + 2) (m : ℕ) (em : m ≡ storable row status) where
+      pub stored-status : (r : Stored) → r ≡ storedAs Fault.Status 0 false → (m ≡ status → ⊥) → r ≡ storedOf row n status lock
+      unfolding storedOf
+      stored-status r e h = e ∙ rw (ne-eqb n (row .cells) a, eq-eqb n (row .cells + row .page + 2) b, ← em, ne-eqb m status h)
+
+      module _ (d : m ≡ status) where
+        pub stored-lock : (r : Stored) → r ≡ storedAs Fault.Lock 0 false → 1 < lock → r ≡ storedOf row n status lock
+        unfolding storedOf
+        stored-lock r e h = e ∙ rw (ne-eqb n (row .cells) a, eq-eqb n (row .cells + row .page + 2) b, ← em, eq-eqb m status d, lt-ltb 1 lock h)
+
+        pub stored-whole : (r : Stored) → r ≡ storedAs Fault.None status (eqb lock 1) → lock ≤ 1 → r ≡ storedOf row n status lock
+        unfolding storedOf
+        stored-whole r e h = e ∙ rw (ne-eqb n (row .cells) a, eq-eqb n (row .cells + row .page + 2) b, ← em, eq-eqb m status d, le-ltb 1 lock h)
+
+-- The status of what is judged is the device's.
+pub stored-bits : (row : Row) (n status lock : ℕ) → storable row (storedOf row n status lock .status) ≡ storedOf row n status lock .status
+unfolding storedOf
+stored-bits row n status lock =
+    let P : Stored → Type 0 = λ (r : Stored). storable row (r .status) ≡ r .status in
+    if-elim P (eqb n (row .cells)) (λ _. no-bits row)
+    (λ _. if-elim P (not (eqb n (row .cells + row .page + 2))) (λ _. no-bits row)
+    (λ _. if-elim P (not (eqb (storable row status) status)) (λ _. no-bits row)
+    (λ e. if-elim P (ltb 1 lock) (λ _. no-bits row) (λ _. eqb-true (storable row status) status (not-false (eqb (storable row status) status) e)))))
+
+-- The bytes that are kept, i of them so far.
+abbrev pub moved : List ℕ → ℕ → ℕ → List ℕ
+moved b from i = take i (drop from b) ++ drop i b
+
+pub moved-more : (b : List ℕ) (from i : ℕ) → from + i < length b → set (moved b from i) i (getD (moved b from i) (from + i) 0) ≡ moved b from (i + 1)
+moved-more b from i h =
+    let s = drop from b in
+    let long : length (take i s) ≡ i = length-take-le i s (omega (arith, length-drop from b)) in
+    let at : from + i ≡ length (take i s) + from = omega (arith, long) in
+    let back : i + from ≡ from + i = omega arith in
+    let read : getD (moved b from i) (from + i) 0 ≡ getD s i 0 = ap (λ (k : ℕ). getD (moved b from i) k 0) at ∙ getD-append-add (take i s) (drop i b) from 0 ∙ getD-drop i b from 0 ∙ ap (λ (k : ℕ). getD b k 0) back ∙ sym (getD-drop from b i 0) in
+    let rest : drop i b ≡ getD b i 0 ∷ drop (suc i) b = drop-cons b i 0 (omega arith) in
+    let first : take (suc i) s ≡ take i s ++ (getD s i 0 ∷ []) = take-suc s i 0 (omega (arith, length-drop from b)) in
+    ap (λ (a : ℕ). set (moved b from i) i a) read
+    ∙ ap (λ (l : List ℕ). set (take i s ++ l) i (getD s i 0)) rest
+    ∙ set-at (take i s) (getD b i 0) (drop (suc i) b) (getD s i 0) i long
+    ∙ sym (append-snoc (take i s) (getD s i 0) (drop (suc i) b))
+    ∙ ap (λ (l : List ℕ). l ++ drop (suc i) b) (sym first)
+    ∙ ap (λ (k : ℕ). moved b from k) (sym (add-one i))
+
+pub moved-all : (b : List ℕ) (from n : ℕ) → from + n ≤ length b → take n (moved b from n) ≡ take n (drop from b)
+moved-all b from n h = take-at (take n (drop from b)) (drop n b) n (length-take-le n (drop from b) (omega (arith, length-drop from b)))
+
+pub bits-of : (row : Row) (r q : Stored) → r ≡ q → storable row (q .status) ≡ q .status → storable row (r .status) ≡ r .status
+bits-of row r q e h = subst (λ (x : Stored). storable row (x .status) ≡ x .status) (sym e) h
+
+-- Buffers and worlds that are not refused are a device's.
+lent-known : (device : ℕ) (cells identification latch : List ℕ) → lentRefusal device cells identification latch ≡ 0 → isDevice device ≡ true
+unfolding lentRefusal
+lent-known device cells identification latch z = go (isDevice device) refl
+  where
+    go : (d : Bool) → isDevice device ≡ d → isDevice device ≡ true
+    go true e = e
+    go false e = absurd (omega (arith, rw e at z))
+
+known : (device : ℕ) (w : World) → worldRefusal device w ≡ 0 → isDevice device ≡ true
+unfolding worldRefusal
+known device w z = lent-known device (w .cells) (w .identification) (w .latch) (go (lentRefusal device (w .cells) (w .identification) (w .latch)) refl)
+  where
+    go : (n : ℕ) → lentRefusal device (w .cells) (w .identification) (w .latch) ≡ n → lentRefusal device (w .cells) (w .identification) (w .latch) ≡ 0
+    go zero e = e
+    go (suc n) e = absurd (omega (arith, rw (e, ne-eqb (suc n) 0 (λ h. absurd (omega arith))) at z))
+
+-- A piece of a run on a world that is not refused, with an answer byte for each byte of it.
+module _ (device : ℕ) (w : World) (t a : List ℕ) (limit : ℕ) (p : Progress) (z : worldRefusal device w ≡ 0) (enough : length t ≤ length a) (e : p ≡ runOutcome device w t a limit) where
+  piece : Course (rowOf device) t (length a) limit p
+  piece = subst (Course (rowOf device) t (length a) limit) (sym e) (run-course device w t a limit z enough)
+
+  pub piece-done : p .done ≤ length (p .answers)
+  piece-done = omega (arith, piece .few, piece .inside, piece .long, enough)
+
+  pub piece-taken : p .taken ≤ length t
+  piece-taken = piece .inside
+
+  pub piece-world : worldRefusal device (p .world) ≡ 0
+  piece-world = world-taken device (p .world) (known device w z) (piece .sound) (piece .lent)
+
+-- What is read behind the bytes that are kept fits in the buffer.
+pub left-fits : (buf part : List ℕ) (c k m : ℕ) → c ≤ length buf → m ≤ length part → length (putMid c k buf part) ≡ length buf → c + m ≤ length buf
+left-fits buf part c k m h l e =
+    omega (arith, h, l, e, length-take-le c buf h, length-append (take c buf) (part ++ postOf c k buf), length-append part (postOf c k buf))
+
+-- The ending with the status in digits.
+pub status-ending : {a b : List ℕ} {i j : ℕ} (number : ℕ) (status : List ℕ) (byte : ℕ) → status ≡ hexadecimal byte → Put a i (ending number status) b j → Put a i (ending number (hexadecimal byte)) b j
+status-ending {a} {b} {i} {j} number status byte e p = subst (λ (t : List ℕ). Put a i (ending number t) b j) e p
+
+-- What every device needs of the room.
+pub room : (device : ℕ) (row : Row) → row ≡ rowOf device → (row .cells ≤ 262_144) × (row .page ≤ 256)
+room device row e = rw e (entry (device - 1))
+  where
+    entry : (i : ℕ) → (getD table i m95040 .cells ≤ 262_144) × (getD table i m95040 .page ≤ 256)
+    entry zero = (lit≤ tt, lit≤ tt)
+    entry (suc zero) = (lit≤ tt, lit≤ tt)
+    entry (suc (suc zero)) = (lit≤ tt, lit≤ tt)
+    entry (suc (suc (suc zero))) = (lit≤ tt, lit≤ tt)
+    entry (suc (suc (suc (suc i)))) = (lit≤ tt, lit≤ tt)
+
+pub lent-room : (device : ℕ) (row : Row) → row ≡ rowOf device → 1 ≤ device → device ≤ 4 → (cells identification latch : List ℕ) → length cells ≡ row .cells → length identification ≡ row .page → length latch ≡ row .page + row .page
+    → lentRefusal device cells identification latch ≡ 0
+lent-room device row e a b cells identification latch ec ei el =
+    sym (lent-good device row true e (sym (and-both (leb 1 device) (leb device 4) (le-leb 1 device a) (le-leb device 4 b))) cells identification latch refl ec ei el)
+
+-- A sound world stays sound with the status bits and the lock of a file, and with other cells and another identification page.
+loaded-sound : (row : Row) (s : State) (c i l c′ i′ : List ℕ) (status : ℕ) (locked : Bool) → Sound row (worldOf s c i l) → storable row status ≡ status → Sound row (worldOf (loadedState s status locked) c′ i′ l)
+loaded-sound row s c i l c′ i′ status locked h e =
+    let u = h .unsettled in
+    record {
+      unsettled =
+          record { input = u .input; inside = u .inside; stored = e; cycle = u .cycle; off = u .off; low = u .low; saw = u .saw; turned = u .turned; marks = u .marks };
+      holds = h .holds;
+    }
+
+-- A prepared chip with what its file holds is not refused.
+module _ (device : ℕ) (cells identification latch : List ℕ) (z : lentRefusal device cells identification latch ≡ 0) (n : ℕ) (s : State) (c i l : List ℕ) (ew : preparedAs n (worldOf s c i l) ≡ prepareOutcome device cells identification latch) where
+  ready : worldOf s c i l ≡ prepared (rowOf device)
+  unfolding prepareOutcome
+  ready = ap (λ x. x .world) ew ∙ rw z
+
+  ready-lent : Lent (rowOf device) (worldOf s c i l)
+  ready-lent = subst (Lent (rowOf device)) (sym ready) (prepared-lent (of-device device))
+
+  pub load-fits : (row : Row) → row ≡ rowOf device → Widths row × (length c ≡ row .cells) × (length i ≡ row .page)
+  load-fits row e = rw e (of-device device, ready-lent .cells, ready-lent .identification)
+
+  pub loaded : (row : Row) (status : ℕ) (locked : Bool) (t : State) (c′ i′ : List ℕ) → row ≡ rowOf device → storable row status ≡ status → t ≡ loadedState s status locked → length c′ ≡ length c → length i′ ≡ length i
+      → worldRefusal device (worldOf t c′ i′ l) ≡ 0
+  loaded row status locked t c′ i′ er es et ec ei =
+      let bits : storable (rowOf device) status ≡ status = subst (λ (r : Row). storable r status ≡ status) er es in
+      let sound : Sound (rowOf device) (worldOf s c i l) = subst (Sound (rowOf device)) (sym ready) (prepared-sound (of-device device)) in
+      let sound′ : Sound (rowOf device) (worldOf t c′ i′ l) = rw et (loaded-sound (rowOf device) s c i l c′ i′ status locked sound bits) in
+      let lent : Lent (rowOf device) (worldOf t c′ i′ l) = record { cells = ec ∙ ready-lent .cells; identification = ei ∙ ready-lent .identification; latch = ready-lent .latch } in
+      world-taken device (worldOf t c′ i′ l) (lent-known device cells identification latch z) sound′ lent

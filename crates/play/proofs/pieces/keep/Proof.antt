@@ -1,0 +1,62 @@
+-- `play::pieces::keep` meets its contract.
+use Prim.Native.Nat.{ℕ, _-_, _≤_}
+use mathlib.Core.Path.{_≡_, refl, _∙_, ap, subst}
+use mathlib.Core.List.{List}
+use native.Mathlib.Omega.{arith}
+use lib.ListN.{length, take, drop, length-set}
+use Rattle.play.proofs.Playing.{moved, moved-more, moved-all}
+use Rattle.play.proofs.pieces.keep.Statement.{statement}
+use Rattle.play.proofs.pieces.keep.Tie as tie
+
+abbrev Inv-loop : tie.InvT-loop
+Inv-loop buf₀ from to count i₀ buf i = (count ≡ to - from) × (i ≤ count) × (length buf ≡ length buf₀) × (buf ≡ moved buf₀ from i)
+
+abbrev μ-loop : tie.MeasureT-loop
+μ-loop buf₀ from to count i₀ buf i = count - i
+
+sub-count : tie.Need-sub-count Inv-loop μ-loop
+sub-count c = c .pre .0
+
+loop-holds : tie.Need-loop-holds Inv-loop μ-loop
+loop-holds c = (refl, omega arith, refl, refl)
+
+add-buf : tie.Need-add-buf Inv-loop μ-loop
+add-buf c = omega (arith, c .before .before .pre .0, c .before .before .pre .1)
+
+slice-read-buf : tie.Need-slice-read-buf Inv-loop μ-loop
+slice-read-buf c = omega (arith, c .before .before .before .pre .0, c .before .before .before .pre .1)
+
+slice-write-buf : tie.Need-slice-write-buf Inv-loop μ-loop
+slice-write-buf c = omega (arith, c .before .before .before .pre .0, c .before .before .before .pre .1)
+
+add-i : tie.Need-add-i Inv-loop μ-loop
+add-i c = omega (arith, c .before .before .before .pre .0, c .before .before .before .pre .1)
+
+loop-less : tie.Need-loop-less Inv-loop μ-loop
+loop-less c = omega arith
+
+loop-again : tie.Need-loop-again Inv-loop μ-loop
+loop-again c = (c .before .before .loop .inv .0, omega arith, length-set (c .before .before .loop .buf) (c .before .before .loop .i) _ ∙ c .before .before .loop .inv .2, cc (moved-more (c .before .before .before .args .buf .now) (c .before .before .before .args .from) (c .before .before .loop .i) (omega (arith, c .before .before .before .pre .0, c .before .before .before .pre .1, c .before .before .loop .inv .0))))
+
+same-length : tie.Need-same-length Inv-loop μ-loop
+same-length c = c .before .loop .inv .2
+
+returns : tie.Need-returns Inv-loop μ-loop
+returns c = let n = c .before .before .args .to - c .before .before .args .from in let e : c .before .loop .i ≡ n = omega arith in (refl, ap (λ (l : List ℕ). take n l) (c .before .loop .inv .3 ∙ ap (moved (c .before .before .args .buf .now) (c .before .before .args .from)) e) ∙ moved-all (c .before .before .args .buf .now) (c .before .before .args .from) n (omega (arith, c .before .before .pre .0, c .before .before .pre .1)))
+
+pub keep-spec : {M : Type 1} → statement M
+keep-spec =
+    tie.close
+    (tie.spec
+    Inv-loop
+    μ-loop
+    sub-count
+    loop-holds
+    add-buf
+    slice-read-buf
+    slice-write-buf
+    add-i
+    loop-less
+    loop-again
+    same-length
+    returns)

@@ -1,0 +1,73 @@
+-- `play::pieces::play_all` meets its contract.
+use Prim.Native.Nat.{ℕ, _≤_}
+use mathlib.Core.Path.{_≡_, refl, _∙_}
+use mathlib.Core.Bool.{Bool, true, not, _&&_}
+use native.Mathlib.Omega.{arith}
+use lib.ListN.{length}
+use lib.Dec.{ltb}
+use borrow.Author.Needs.{needs}
+use borrow.Author.Tests.{ltb-true}
+use Rattle.rules.specs.World.{worldOf}
+use Rattle.rules.specs.Call.{worldRefusal}
+use Rattle.rules.proofs.Choice.{and-left}
+use Rattle.play.proofs.pieces.play_all.Statement.{statement}
+use Rattle.play.proofs.pieces.play_all.Tie as tie
+
+abbrev Inv-loop : tie.InvT-loop
+Inv-loop device cells₀ identification₀ latch₀ buf₀ answers₀ trace output p₀ turns₀ cells identification latch buf answers p turns =
+    (worldRefusal device (worldOf (p .state) cells identification latch) ≡ 0) × (p .filled ≤ length buf) × (length buf ≡ length buf₀) × (length answers ≡ length answers₀) × (length cells ≡ length cells₀) × (length identification ≡ length identification₀) × (length latch ≡ length latch₀)
+
+abbrev μ-loop : tie.MeasureT-loop
+μ-loop device cells₀ identification₀ latch₀ buf₀ answers₀ trace output p₀ turns₀ cells identification latch buf answers p turns =
+    turns
+
+loop-holds : tie.Need-loop-holds Inv-loop μ-loop
+loop-holds c = (c .before .before .before .before .before .pre .0, c .before .before .before .before .before .pre .1, refl, refl, refl, refl, refl)
+
+play-piece-requires : tie.Need-play-piece-requires Inv-loop μ-loop
+play-piece-requires c κs = (c .before .before .before .before .before .before .before .loop .inv .0, c .before .before .before .before .before .before .before .loop .inv .1, omega (arith, c .before .before .before .before .before .before .before .before .before .before .before .before .before .pre .2, c .before .before .before .before .before .before .before .loop .inv .2, c .before .before .before .before .before .before .before .loop .inv .3), omega (arith, c .before .before .before .before .before .before .before .before .before .before .before .before .before .pre .3, c .before .before .before .before .before .before .before .loop .inv .2))
+
+sub-turns : tie.Need-sub-turns Inv-loop μ-loop
+sub-turns c = ltb-true 0 (c .before .before .before .before .before .before .before .before .before .before .before .before .before .before .before .before .before .before .loop .turns) (and-left (ltb 0 (c .before .before .before .before .before .before .before .before .before .before .before .before .before .before .before .before .before .before .loop .turns)) (not (c .before .before .before .before .before .before .before .before .before .before .before .before .before .before .before .before .before .before .loop .p .ended)) (c .before .before .before .before .before .before .before .before .before .before .before .before .before .before .before .before .if1 .taken))
+
+loop-less : tie.Need-loop-less Inv-loop μ-loop
+loop-less c = omega (arith, ltb-true 0 (c .before .before .before .before .before .before .before .before .before .before .before .before .before .before .before .before .before .before .loop .turns) (and-left (ltb 0 (c .before .before .before .before .before .before .before .before .before .before .before .before .before .before .before .before .before .before .loop .turns)) (not (c .before .before .before .before .before .before .before .before .before .before .before .before .before .before .before .before .before .before .loop .p .ended)) (c .before .before .before .before .before .before .before .before .before .before .before .before .before .before .before .before .if1 .taken)))
+
+loop-again : tie.Need-loop-again Inv-loop μ-loop
+loop-again c = (c .before .before .before .before .before .before .before .before .before .before .play-piece .ensures .0, c .before .before .before .before .before .before .before .before .before .before .play-piece .ensures .1, c .before .before .before .buf .given ∙ c .before .before .before .before .before .before .before .before .before .before .before .before .before .before .before .before .before .before .loop .inv .2, c .before .answers .given ∙ c .before .before .before .before .before .before .before .before .before .before .before .before .before .before .before .before .before .before .loop .inv .3, c .before .before .before .before .before .before .before .before .before .cells .given ∙ c .before .before .before .before .before .before .before .before .before .before .before .before .before .before .before .before .before .before .loop .inv .4, c .before .before .before .before .before .before .before .identification .given ∙ c .before .before .before .before .before .before .before .before .before .before .before .before .before .before .before .before .before .before .loop .inv .5, c .before .before .before .before .before .latch .given ∙ c .before .before .before .before .before .before .before .before .before .before .before .before .before .before .before .before .before .before .loop .inv .6)
+
+same-length : tie.Need-same-length Inv-loop μ-loop
+same-length c = c .before .before .loop .inv .4
+
+same-length-2 : tie.Need-same-length-2 Inv-loop μ-loop
+same-length-2 c = c .before .before .loop .inv .5
+
+same-length-3 : tie.Need-same-length-3 Inv-loop μ-loop
+same-length-3 c = c .before .before .loop .inv .6
+
+same-length-4 : tie.Need-same-length-4 Inv-loop μ-loop
+same-length-4 c = c .before .before .loop .inv .2
+
+same-length-5 : tie.Need-same-length-5 Inv-loop μ-loop
+same-length-5 c = c .before .before .loop .inv .3
+
+returns : tie.Need-returns Inv-loop μ-loop
+returns c = c .before .before .loop .inv .0
+
+pub play-all-spec : {M : Type 1} → statement M
+play-all-spec =
+    tie.close
+    (tie.spec
+    Inv-loop
+    μ-loop
+    loop-holds
+    play-piece-requires
+    sub-turns
+    loop-less
+    loop-again
+    same-length
+    same-length-2
+    same-length-3
+    same-length-4
+    same-length-5
+    returns)

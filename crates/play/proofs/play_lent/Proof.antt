@@ -1,0 +1,67 @@
+-- `play::play_lent` meets its contract.
+use mathlib.Core.Path.{_∙_}
+use Rattle.play.proofs.Playing.{load-fits, loaded}
+use borrow.Author.Needs.{needs}
+use Rattle.play.proofs.play_lent.Statement.{statement}
+use Rattle.play.proofs.play_lent.Tie as tie
+
+prepare-requires : tie.Need-prepare-requires
+prepare-requires c κs = search needs
+
+row-of-requires : tie.Need-row-of-requires
+row-of-requires c κs = search needs
+
+load-requires : tie.Need-load-requires
+load-requires c κs = load-fits (c .before .before .before .before .before .before .before .before .before .before .before .before .before .before .before .before .before .before .before .args .device) (c .before .before .before .before .before .before .before .before .before .before .before .before .before .before .before .before .before .before .before .args .cells .now) (c .before .before .before .before .before .before .before .before .before .before .before .before .before .before .before .before .before .before .before .args .identification .now) (c .before .before .before .before .before .before .before .before .before .before .before .before .before .before .before .before .before .before .before .args .latch .now) (c .before .before .before .before .before .before .before .before .before .before .before .before .before .before .before .before .before .before .before .pre .0) _ _ _ _ _ (c .before .before .before .before .before .before .before .before .before .prepare .ensures) (c .before .before .row-of .result) (c .before .before .row-of .ensures)
+
+is-faulty-requires : tie.Need-is-faulty-requires
+is-faulty-requires c κs = search needs
+
+same-length : tie.Need-same-length
+same-length c = search needs
+
+same-length-2 : tie.Need-same-length-2
+same-length-2 c = search needs
+
+same-length-3 : tie.Need-same-length-3
+same-length-3 c = search needs
+
+returns : tie.Need-returns
+returns c = search needs
+
+with-contents-requires : tie.Need-with-contents-requires
+with-contents-requires c κs = search needs
+
+play-loaded-requires : tie.Need-play-loaded-requires
+play-loaded-requires c κs = (loaded (c .before .before .before .before .before .before .before .before .before .before .before .before .before .before .before .before .before .before .before .before .before .before .before .before .before .before .before .before .before .before .args .device) (c .before .before .before .before .before .before .before .before .before .before .before .before .before .before .before .before .before .before .before .before .before .before .before .before .before .before .before .before .before .before .args .cells .now) (c .before .before .before .before .before .before .before .before .before .before .before .before .before .before .before .before .before .before .before .before .before .before .before .before .before .before .before .before .before .before .args .identification .now) (c .before .before .before .before .before .before .before .before .before .before .before .before .before .before .before .before .before .before .before .before .before .before .before .before .before .before .before .before .before .before .args .latch .now) (c .before .before .before .before .before .before .before .before .before .before .before .before .before .before .before .before .before .before .before .before .before .before .before .before .before .before .before .before .before .before .pre .0) _ _ _ _ _ (c .before .before .before .before .before .before .before .before .before .before .before .before .before .before .before .before .before .before .before .before .prepare .ensures) (c .before .before .before .before .before .before .before .before .before .before .before .before .before .row-of .result) _ _ _ _ _ (c .before .before .before .before .before .before .before .before .before .before .before .before .before .row-of .ensures) (c .before .before .before .before .before .before .before .before .before .before .load .ensures) (c .before .before .before .with-contents .ensures) (c .before .before .before .before .before .before .before .before .before .cells2 .given) (c .before .before .before .before .before .before .before .identification2 .given), c .before .before .before .before .before .before .before .before .before .before .before .before .before .before .before .before .before .before .before .before .before .before .before .before .before .before .before .before .before .before .pre .1)
+
+same-length-4 : tie.Need-same-length-4
+same-length-4 c = c .before .before .before .before .before .cells3 .given ∙ c .before .before .before .before .before .before .before .before .before .before .before .before .before .before .before .before .cells2 .given ∙ c .before .before .before .before .before .before .before .before .before .before .before .before .before .before .before .before .before .before .before .before .before .before .before .before .before .before .cells .given
+
+same-length-5 : tie.Need-same-length-5
+same-length-5 c = c .before .before .before .identification3 .given ∙ c .before .before .before .before .before .before .before .before .before .before .before .before .before .before .identification2 .given ∙ c .before .before .before .before .before .before .before .before .before .before .before .before .before .before .before .before .before .before .before .before .before .before .before .before .identification .given
+
+same-length-6 : tie.Need-same-length-6
+same-length-6 c = c .before .latch2 .given ∙ c .before .before .before .before .before .before .before .before .before .before .before .before .before .before .before .before .before .before .before .before .before .before .latch .given
+
+returns-2 : tie.Need-returns-2
+returns-2 c = search needs
+
+pub play-lent-spec : {M : Type 1} → statement M
+play-lent-spec =
+    tie.close
+    (tie.spec
+    prepare-requires
+    row-of-requires
+    load-requires
+    is-faulty-requires
+    same-length
+    same-length-2
+    same-length-3
+    returns
+    with-contents-requires
+    play-loaded-requires
+    same-length-4
+    same-length-5
+    same-length-6
+    returns-2)
