@@ -30,5 +30,10 @@ fn main() {
         &mut answers,
         &mut out,
     );
-    io::write_all(STDOUT_FILENO, &out[..n]);
+    if !io::write_all(STDOUT_FILENO, &out[..n]) {
+        io::write_all(
+            STDERR_FILENO,
+            b"bench: standard output could not be written to its end\n",
+        );
+    }
 }

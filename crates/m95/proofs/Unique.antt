@@ -1,9 +1,12 @@
--- Any two outcomes that a public call's contract allows are equal: `unique-prepare`, `unique-event`, `unique-run`, `unique-cell-page`, `unique-identification-page`.
+-- Any two outcomes that a public call's contract allows are equal: `unique-prepare`, `unique-event`, `unique-run`, `unique-cell-page`, `unique-identification-page`, `unique-status-byte`, `unique-prepared-state`.
 use Prim.Native.Nat.{ℕ}
 use mathlib.Core.Path.{_≡_, sym, _∙_}
 use mathlib.Core.List.{List}
 use Rattle.rules.specs.declared.Event.{Event}
+use Rattle.rules.specs.declared.State.{State}
 use Rattle.rules.specs.World.{World}
+use Rattle.rules.specs.Device.{preparedState}
+use Rattle.rules.specs.Send.{statusByte}
 use Rattle.rules.specs.Trace.{Progress}
 use Rattle.rules.specs.Call.{Prepared, prepareOutcome, Replied, eventOutcome, runOutcome, Shown, cellPageOutcome, identificationPageOutcome}
 
@@ -25,3 +28,9 @@ unique-cell-page device cells address = unique
 
 pub unique-identification-page : {x y : Shown} (device : ℕ) (identification : List ℕ) → x ≡ identificationPageOutcome device identification → y ≡ identificationPageOutcome device identification → x ≡ y
 unique-identification-page device identification = unique
+
+pub unique-status-byte : {x y : ℕ} (s : State) → x ≡ statusByte s → y ≡ statusByte s → x ≡ y
+unique-status-byte s e f = unique e f
+
+pub unique-prepared-state : {x y : State} → x ≡ preparedState → y ≡ preparedState → x ≡ y
+unique-prepared-state e f = unique e f

@@ -141,7 +141,11 @@ fn tell(played: Played)
         played.bytes,
         &mut line,
     );
-    io::write_all(STDOUT_FILENO, &line[..length]);
+    if !io::write_all(STDOUT_FILENO, &line[..length]) {
+        complain(
+            b"play: the run is done, and CHIP and ANSWERS are written; standard output is not\n",
+        );
+    }
 }
 
 // The name beside CHIP under which its new contents are written, and its length.
@@ -151,6 +155,18 @@ fn name_beside(chip: &[u8], beside: &mut [u8]) -> usize
 {
     let named = text::put(chip, beside, 0);
     text::put(b".new", beside, named)
+}
+
+// Why there is no place for the chip's new contents. A file of that name is another run's, or was left by one that was cut off.
+fn tell_unmade(beside: &[u8]) {
+    if os::errno() == libc::EEXIST {
+        fail(
+            b"play: another run uses this chip, or one was cut off; if none runs, remove ",
+            beside,
+        );
+        return;
+    }
+    fail(b"play: cannot write the chip's new contents ", beside);
 }
 
 // Plays the trace on a chip that is loaded. TRACE is read, and CHIP's new contents get their place, before ANSWERS is touched.
@@ -182,7 +198,7 @@ fn play_loaded(
     }
     let new = os::create(beside);
     if new < 0 {
-        fail(b"play: cannot write the chip's new contents ", beside);
+        tell_unmade(beside);
         return;
     }
     let start = pieces::started(state, read.count);

@@ -54,11 +54,8 @@ returns-2 c = search needs
 create-requires : tie.Need-create-requires
 create-requires c κs = search needs
 
-slice-aggregate-fail-3 : tie.Need-slice-aggregate-fail-3
-slice-aggregate-fail-3 c = search needs
-
-fail-requires-3 : tie.Need-fail-requires-3
-fail-requires-3 c κs = search needs
+tell-unmade-requires : tie.Need-tell-unmade-requires
+tell-unmade-requires c κs = search needs
 
 returns-3 : tie.Need-returns-3
 returns-3 c = search needs
@@ -121,8 +118,7 @@ play-loaded-spec =
     fail-requires-2
     returns-2
     create-requires
-    slice-aggregate-fail-3
-    fail-requires-3
+    tell-unmade-requires
     returns-3
     started-requires
     slice-aggregate-play-into
