@@ -18,8 +18,9 @@ use Rattle.rules.specs.Program.{hexadecimal, header, lines, ended, unknown, ben
 use Rattle.rules.proofs.Choice.{if-elim, and-left, and-right}
 use Rattle.rules.proofs.Program.{bench-course}
 use Rattle.rules.proofs.Runs.{Course}
-use Rattle.m95.proofs.Calling.{lent-good, status-small}
+use Rattle.m95.proofs.Calling.{status-small}
 use Rattle.text.specs.Put.{Put}
+use Rattle.text.proofs.Putting.{same-text}
 
 -- The first record.
 module _ (input : List ℕ) where
@@ -92,10 +93,6 @@ is-bench device n cells identification latch w trace answers zeros p z ew el ez 
     let e : w ≡ prepared (rowOf device) = ap (λ x. x .world) ew ∙ rw z in
     ep ∙ rw (ez, el, e)
 
--- The last line with the status of a state.
-pub status-end : {a b : List ℕ} {i j : ℕ} (number : ℕ) (status : List ℕ) (byte s : ℕ) → status ≡ hexadecimal byte → byte ≡ s → Put a i (ended number status) b j → Put a i (ended number (hexadecimal s)) b j
-status-end {a} {b} {i} {j} number status byte s e f p = subst (λ (t : List ℕ). Put a i (ended number t) b j) (e ∙ ap hexadecimal f) p
-
 -- What the first two devices need of the room.
 pub room : (device : ℕ) (row : Row) → row ≡ rowOf device → 1 ≤ device → device ≤ 2 → (row .cells ≤ 16_384) × (row .page ≤ 64)
 room zero row e a b = absurd (omega arith)
@@ -127,13 +124,9 @@ module _ (device : ℕ) (trace : List ℕ) (p : Progress) (a : 1 ≤ device) (b 
   pub ran-text : (rest : List ℕ) {before after : List ℕ} {next : ℕ} → Put before 0 (header ++ lines 1 (take (p .done) (p .answers ++ rest)) ++ ended (p .number) (hexadecimal (statusByte (p .world .state)))) after next
       → Put before 0 (runText (benchRun device trace)) after next
   unfolding runText
-  ran-text rest {before} {after} {next} h =
+  ran-text rest h =
       let same : take (p .done) (p .answers ++ rest) ≡ take (p .done) (p .answers) = take-append-le (p .done) (p .answers) rest (omega (arith, ran-few, ran-long)) in
-      subst (λ (t : List ℕ). Put before 0 t after next) (ap (λ (t : List ℕ). header ++ lines 1 t ++ ended (p .number) (hexadecimal (statusByte (p .world .state)))) same ∙ ap runText e) h
-
-pub lent-room : (device : ℕ) (row : Row) → row ≡ rowOf device → 1 ≤ device → device ≤ 2 → (cells identification latch : List ℕ) → length cells ≡ row .cells → length identification ≡ row .page → length latch ≡ row .page + row .page
-    → lentRefusal device cells identification latch ≡ 0
-lent-room device row e a b cells identification latch ec ei el = sym (lent-good device row true e (sym (a-device device a b)) cells identification latch refl ec ei el)
+      same-text (ap (λ (t : List ℕ). header ++ lines 1 t ++ ended (p .number) (hexadecimal (statusByte (p .world .state)))) same ∙ ap runText e) h
 
 -- The whole output, where the first record is refused and where it is not.
 pub text-refused : (input : List ℕ) (n : ℕ) → n ≡ firstRecord input .number → (n ≡ 0 → ⊥) → ended n unknown ≡ benchText input

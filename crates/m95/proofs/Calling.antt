@@ -60,6 +60,10 @@ module _ (device : ℕ) (row : Row) (d : Bool) (er : row ≡ rowOf device) (ed :
         unfolding lentRefusal
         lent-good b c = rw (← ed, h, cells-at, eq-eqb (length cells) (row .cells) a, page-at, eq-eqb (length identification) (row .page) b, eq-eqb (length latch) (row .page + row .page) c)
 
+pub lent-room : (device : ℕ) (row : Row) → row ≡ rowOf device → isDevice device ≡ true → (cells identification latch : List ℕ) → length cells ≡ row .cells → length identification ≡ row .page → length latch ≡ row .page + row .page
+    → lentRefusal device cells identification latch ≡ 0
+lent-room device row e d cells identification latch ec ei el = sym (lent-good device row true e (sym d) cells identification latch refl ec ei el)
+
 pub lent-fine : (device : ℕ) (s : State) (cells identification latch : List ℕ) → lentRefusal device cells identification latch ≡ 0 → Lent (rowOf device) (worldOf s cells identification latch)
 unfolding lentRefusal
 lent-fine device s cells identification latch =

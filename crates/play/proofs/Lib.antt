@@ -1,2 +1,2 @@
 -- The laws that the proofs of the functions cite.
-pub mod Playing
+pub mod Loading

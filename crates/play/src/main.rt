@@ -1,9 +1,6 @@
 // play DEVICE CHIP TRACE ANSWERS: runs a trace of any length on any device. CHIP keeps the chip's contents from run to run, ANSWERS
 // gets a byte for each record done, and standard output says how it ended and how much was done. Bad use gets one line on standard
 // error and changes no file: every file that is read is read, and CHIP's new contents have their place, before ANSWERS is opened.
-mod contents;
-mod pieces;
-mod summary;
 
 ghost use Prim.Native.Nat.{_+_, _≤_, _<_};
 ghost use mathlib.Core.Path.{_≡_};
@@ -12,11 +9,14 @@ ghost use Rattle.io.specs.Counts.{Counts};
 ghost use Rattle.rules.specs.World.{worldOf};
 ghost use Rattle.rules.specs.Send.{statusByte};
 ghost use Rattle.rules.specs.Call.{lentRefusal, worldRefusal};
-ghost use Rattle.play.specs.Stored.{loadedState};
-use contents::Fault;
+ghost use Rattle.player.specs.Stored.{loadedState};
 use libc::STDERR_FILENO;
 use libc::STDOUT_FILENO;
-use pieces::Played;
+use player::contents;
+use player::contents::Fault;
+use player::pieces;
+use player::pieces::Played;
+use player::summary;
 use rules::Registers;
 use rules::State;
 

@@ -31,6 +31,10 @@ copied text out part post at r fits rest ep er el =
           (take-append-add (take at out) (part ++ post) r ∙ ap (λ (l : List ℕ). take at out ++ l) (rw (whole, er, append-assoc text rest post, take-append-le (length text) text (rest ++ post) (omega arith), take-length text)));
     }
 
+-- A text that is equal to another.
+pub same-text : {a b t u : List ℕ} {i j : ℕ} → t ≡ u → Put a i t b j → Put a i u b j
+same-text {a} {b} {t} {u} {i} {j} e p = subst (λ (l : List ℕ). Put a i l b j) e p
+
 -- Two texts, one after the other.
 pub joined : {a b c t u : List ℕ} {i j k : ℕ} → Put a i t b j → Put b j u c k → Put a i (t ++ u) c k
 joined {a} {b} {c} {t} {u} {i} {j} {k} p q =
@@ -130,14 +134,14 @@ pub none : (out : List ℕ) (at : ℕ) → Put out at [] out at
 none out at = record { place = omega arith; long = refl; stands = sym (append-nil (take at out)) }
 
 pub line-put : {a b c : List ℕ} {i j k : ℕ} (n answer d : ℕ) → d ≡ shown answer → Put a i (decimal n) b j → Put b j (32 ∷ d ∷ 10 ∷ []) c k → Put a i (line n answer) c k
-line-put {a} {b} {c} {i} {j} {k} n answer d e p q = subst (λ (m : ℕ). Put a i (decimal n ++ (32 ∷ m ∷ 10 ∷ [])) c k) e (joined p q)
+line-put n answer d e p q = same-text (ap (λ (m : ℕ). decimal n ++ (32 ∷ m ∷ 10 ∷ [])) e) (joined p q)
 
 pub lines-put : {a b c : List ℕ} {i j k : ℕ} (answers : List ℕ) (done : ℕ) → done < length answers → Put a i (lines 1 (take done answers)) b j → Put b j (line (done + 1) (getD answers done 0)) c k
     → Put a i (lines 1 (take (done + 1) answers)) c k
-lines-put {a} {b} {c} {i} {j} {k} answers done h p q = subst (λ (t : List ℕ). Put a i t c k) (lines-at answers done h) (joined p q)
+lines-put answers done h p q = same-text (lines-at answers done h) (joined p q)
 
 pub all-put : {a b : List ℕ} {i j : ℕ} (answers : List ℕ) (done : ℕ) → length answers ≤ done → Put a i (lines 1 (take done answers)) b j → Put a i (lines 1 answers) b j
-all-put {a} {b} {i} {j} answers done h p = subst (λ (t : List ℕ). Put a i (lines 1 t) b j) (take-all done answers h) p
+all-put answers done h p = same-text (ap (lines 1) (take-all done answers h)) p
 
 -- A text put at the start of a buffer, as what stands there and how much.
 pub whole : (before text after : List ℕ) (next : ℕ) → Put before 0 text after next → Counts next after × (take next after ≡ text)

@@ -2,7 +2,8 @@
 use native.Mathlib.Omega.{arith}
 use mathlib.Core.Path.{sym}
 use lib.Seq.{length-take-le}
-use Rattle.play.proofs.Playing.{room, lent-room}
+use Rattle.m95.proofs.Calling.{lent-room}
+use Rattle.play.proofs.Loading.{room, a-device}
 use borrow.Author.Needs.{needs}
 use Rattle.play.proofs.play_device.Statement.{statement}
 use Rattle.play.proofs.play_device.Tie as tie
@@ -32,7 +33,7 @@ slice-aggregate-play-lent-3 : tie.Need-slice-aggregate-play-lent-3
 slice-aggregate-play-lent-3 c = sym (length-take-le _ _ (omega (arith, room (c .before .before .before .before .before .before .before .args .device) (c .before .before .before .row-of .result) (c .before .before .before .row-of .ensures) .1)))
 
 play-lent-requires : tie.Need-play-lent-requires
-play-lent-requires c κs = (lent-room (c .before .before .before .before .before .before .before .args .device) (c .before .before .before .row-of .result) (c .before .before .before .row-of .ensures) (c .before .before .before .before .before .before .before .pre .0) (c .before .before .before .before .before .before .before .pre .1) _ _ _ (length-take-le _ _ (omega (arith, room (c .before .before .before .before .before .before .before .args .device) (c .before .before .before .row-of .result) (c .before .before .before .row-of .ensures) .0))) (length-take-le _ _ (omega (arith, room (c .before .before .before .before .before .before .before .args .device) (c .before .before .before .row-of .result) (c .before .before .before .row-of .ensures) .1))) (length-take-le _ _ (omega (arith, room (c .before .before .before .before .before .before .before .args .device) (c .before .before .before .row-of .result) (c .before .before .before .row-of .ensures) .1))), c .before .before .before .before .before .before .before .pre .2)
+play-lent-requires c κs = (lent-room (c .before .before .before .before .before .before .before .args .device) (c .before .before .before .row-of .result) (c .before .before .before .row-of .ensures) (a-device (c .before .before .before .before .before .before .before .args .device) (c .before .before .before .before .before .before .before .pre .0) (c .before .before .before .before .before .before .before .pre .1)) _ _ _ (length-take-le _ _ (omega (arith, room (c .before .before .before .before .before .before .before .args .device) (c .before .before .before .row-of .result) (c .before .before .before .row-of .ensures) .0))) (length-take-le _ _ (omega (arith, room (c .before .before .before .before .before .before .before .args .device) (c .before .before .before .row-of .result) (c .before .before .before .row-of .ensures) .1))) (length-take-le _ _ (omega (arith, room (c .before .before .before .before .before .before .before .args .device) (c .before .before .before .row-of .result) (c .before .before .before .row-of .ensures) .1))), c .before .before .before .before .before .before .before .pre .2)
 
 returns : tie.Need-returns
 returns c = search needs

@@ -1,6 +1,6 @@
 -- `play::play_lent` meets its contract.
 use mathlib.Core.Path.{_∙_}
-use Rattle.play.proofs.Playing.{load-fits, loaded}
+use Rattle.play.proofs.Loading.{load-fits, loaded}
 use borrow.Author.Needs.{needs}
 use Rattle.play.proofs.play_lent.Statement.{statement}
 use Rattle.play.proofs.play_lent.Tie as tie

@@ -3,10 +3,10 @@ use Prim.Native.Nat.{ℕ}
 use mathlib.Core.List.{List}
 use lib.ListN.{length, take}
 use native.Mathlib.Omega.{arith}
-use mathlib.Core.Path.{sym, ap}
+use mathlib.Core.Path.{sym, ap, _∙_}
 use lib.Seq.{length-take-le}
-use Rattle.text.proofs.Putting.{joined, lines-short}
-use Rattle.bench.proofs.Printing.{status-end}
+use Rattle.rules.specs.Program.{hexadecimal, ended}
+use Rattle.text.proofs.Putting.{same-text, joined, lines-short}
 use borrow.Author.Needs.{needs}
 use Rattle.bench.proofs.program.put_run.Statement.{statement}
 use Rattle.bench.proofs.program.put_run.Tie as tie
@@ -39,7 +39,8 @@ same-length : tie.Need-same-length
 same-length c = search needs
 
 returns : tie.Need-returns
-returns c = joined (joined (c .before .before .before .before .before .before .before .before .before .before .before .before .before .before .put .ensures) (c .before .before .before .before .before .before .before .before .before .put-lines .ensures)) (status-end (c .before .before .before .before .before .before .before .before .before .before .before .before .before .before .before .before .before .before .before .args .ran .number) _ _ _ (c .before .before .before .before .before .hexadecimal .ensures) (c .before .before .before .before .before .before .status-byte .ensures) (c .before .before .put-end .ensures))
+returns c =
+    joined (joined (c .before .before .before .before .before .before .before .before .before .before .before .before .before .before .put .ensures) (c .before .before .before .before .before .before .before .before .before .put-lines .ensures)) (same-text (ap (λ (t : List ℕ). ended (c .before .before .before .before .before .before .before .before .before .before .before .before .before .before .before .before .before .before .before .args .ran .number) t) (c .before .before .before .before .before .hexadecimal .ensures ∙ ap hexadecimal (c .before .before .before .before .before .before .status-byte .ensures))) (c .before .before .put-end .ensures))
 
 pub put-run-spec : {M : Type 1} → statement M
 put-run-spec =

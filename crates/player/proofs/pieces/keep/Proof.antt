@@ -1,12 +1,12 @@
--- `play::pieces::keep` meets its contract.
+-- `player::pieces::keep` meets its contract.
 use Prim.Native.Nat.{ℕ, _-_, _≤_}
 use mathlib.Core.Path.{_≡_, refl, _∙_, ap, subst}
 use mathlib.Core.List.{List}
 use native.Mathlib.Omega.{arith}
 use lib.ListN.{length, take, drop, length-set}
-use Rattle.play.proofs.Playing.{moved, moved-more, moved-all}
-use Rattle.play.proofs.pieces.keep.Statement.{statement}
-use Rattle.play.proofs.pieces.keep.Tie as tie
+use Rattle.player.proofs.Playing.{moved, moved-more, moved-all}
+use Rattle.player.proofs.pieces.keep.Statement.{statement}
+use Rattle.player.proofs.pieces.keep.Tie as tie
 
 abbrev Inv-loop : tie.InvT-loop
 Inv-loop buf₀ from to count i₀ buf i = (count ≡ to - from) × (i ≤ count) × (length buf ≡ length buf₀) × (buf ≡ moved buf₀ from i)

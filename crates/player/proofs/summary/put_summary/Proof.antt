@@ -1,14 +1,14 @@
--- `play::summary::put_summary` meets its contract.
+-- `player::summary::put_summary` meets its contract.
 use Prim.Native.Nat.{ℕ}
 use mathlib.Core.Path.{ap, _∙_, subst}
 use mathlib.Core.List.{List}
 use native.Mathlib.Omega.{arith}
 use lib.ListN.{length}
-use Rattle.text.proofs.Putting.{decimal-short, ending-short, joined, whole}
-use Rattle.play.proofs.Playing.{status-ending}
+use Rattle.text.proofs.Putting.{decimal-short, ending-short, same-text, joined, whole}
+use Rattle.rules.specs.Program.{ending}
 use borrow.Author.Needs.{needs}
-use Rattle.play.proofs.summary.put_summary.Statement.{statement}
-use Rattle.play.proofs.summary.put_summary.Tie as tie
+use Rattle.player.proofs.summary.put_summary.Statement.{statement}
+use Rattle.player.proofs.summary.put_summary.Tie as tie
 
 hexadecimal-requires : tie.Need-hexadecimal-requires
 hexadecimal-requires c κs = search needs
@@ -47,7 +47,7 @@ same-length : tie.Need-same-length
 same-length c = search needs
 
 returns : tie.Need-returns
-returns c = whole _ _ _ _ (joined (joined (joined (joined (joined (status-ending (c .before .before .before .before .before .before .before .before .before .before .before .before .before .before .before .before .before .before .before .before .before .before .before .before .before .before .before .before .before .before .args .number) _ (c .before .before .before .before .before .before .before .before .before .before .before .before .before .before .before .before .before .before .before .before .before .before .before .before .before .before .before .before .before .before .args .status) (c .before .before .before .before .before .before .before .before .before .before .before .before .before .before .before .before .before .before .before .before .before .before .before .before .before .before .before .before .hexadecimal .ensures) (c .before .before .before .before .before .before .before .before .before .before .before .before .before .before .before .before .before .before .before .before .before .before .before .before .before .put-ending .ensures)) (c .before .before .before .before .before .before .before .before .before .before .before .before .before .before .before .before .before .before .before .before .put .ensures)) (c .before .before .before .before .before .before .before .before .before .before .before .before .before .before .before .before .put-decimal .ensures)) (c .before .before .before .before .before .before .before .before .before .before .before .put2 .ensures)) (c .before .before .before .before .before .before .before .put-decimal2 .ensures)) (c .before .before .put3 .ensures))
+returns c = whole _ _ _ _ (joined (joined (joined (joined (joined (same-text (ap (λ (t : List ℕ). ending (c .before .before .before .before .before .before .before .before .before .before .before .before .before .before .before .before .before .before .before .before .before .before .before .before .before .before .before .before .before .before .args .number) t) (c .before .before .before .before .before .before .before .before .before .before .before .before .before .before .before .before .before .before .before .before .before .before .before .before .before .before .before .before .hexadecimal .ensures)) (c .before .before .before .before .before .before .before .before .before .before .before .before .before .before .before .before .before .before .before .before .before .before .before .before .before .put-ending .ensures)) (c .before .before .before .before .before .before .before .before .before .before .before .before .before .before .before .before .before .before .before .before .put .ensures)) (c .before .before .before .before .before .before .before .before .before .before .before .before .before .before .before .before .put-decimal .ensures)) (c .before .before .before .before .before .before .before .before .before .before .before .put2 .ensures)) (c .before .before .before .before .before .before .before .put-decimal2 .ensures)) (c .before .before .put3 .ensures))
 
 pub put-summary-spec : {M : Type 1} → statement M
 put-summary-spec =

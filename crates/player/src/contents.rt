@@ -4,7 +4,7 @@ ghost use mathlib.Core.Path.{_≡_};
 ghost use lib.ListN.{length};
 ghost use Rattle.rules.specs.Device.{Widths};
 ghost use Rattle.rules.specs.Judge.{storable};
-ghost use Rattle.play.specs.Stored.{storedAs, storedOf};
+ghost use Rattle.player.specs.Stored.{storedAs, storedOf};
 use rules::Row;
 
 // What is wrong with a chip's file.

@@ -1,4 +1,4 @@
--- `play::pieces::play_all` meets its contract.
+-- `player::pieces::play_all` meets its contract.
 use Prim.Native.Nat.{ℕ, _≤_}
 use mathlib.Core.Path.{_≡_, refl, _∙_}
 use mathlib.Core.Bool.{Bool, true, not, _&&_}
@@ -10,8 +10,8 @@ use borrow.Author.Tests.{ltb-true}
 use Rattle.rules.specs.World.{worldOf}
 use Rattle.rules.specs.Call.{worldRefusal}
 use Rattle.rules.proofs.Choice.{and-left}
-use Rattle.play.proofs.pieces.play_all.Statement.{statement}
-use Rattle.play.proofs.pieces.play_all.Tie as tie
+use Rattle.player.proofs.pieces.play_all.Statement.{statement}
+use Rattle.player.proofs.pieces.play_all.Tie as tie
 
 abbrev Inv-loop : tie.InvT-loop
 Inv-loop device cells₀ identification₀ latch₀ buf₀ answers₀ trace output p₀ turns₀ cells identification latch buf answers p turns =

@@ -1,8 +1,8 @@
--- `play::contents::load` meets its contract.
-use Rattle.play.proofs.Playing.{no-bits, bits-of}
+-- `player::contents::load` meets its contract.
+use Rattle.player.proofs.Playing.{no-bits, bits-of}
 use borrow.Author.Needs.{needs}
-use Rattle.play.proofs.contents.load.Statement.{statement}
-use Rattle.play.proofs.contents.load.Tie as tie
+use Rattle.player.proofs.contents.load.Statement.{statement}
+use Rattle.player.proofs.contents.load.Tie as tie
 
 open-read-requires : tie.Need-open-read-requires
 open-read-requires c κs = search needs

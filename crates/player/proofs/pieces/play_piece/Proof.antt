@@ -1,14 +1,14 @@
--- `play::pieces::play_piece` meets its contract.
+-- `player::pieces::play_piece` meets its contract.
 use Prim.Native.Nat.{_-_}
 use lib.ListN.{length}
 use borrow.Rule.Slice.PartMut.{putMid}
 use native.Mathlib.Omega.{arith}
 use mathlib.Core.Path.{_≡_, sym}
 use lib.Seq.{length-take-le}
-use Rattle.play.proofs.Playing.{piece-done, piece-taken, piece-world, left-fits}
+use Rattle.player.proofs.Playing.{piece-done, piece-taken, piece-world, left-fits}
 use borrow.Author.Needs.{needs}
-use Rattle.play.proofs.pieces.play_piece.Statement.{statement}
-use Rattle.play.proofs.pieces.play_piece.Tie as tie
+use Rattle.player.proofs.pieces.play_piece.Statement.{statement}
+use Rattle.player.proofs.pieces.play_piece.Tie as tie
 
 slice-reshare-prefix-run : tie.Need-slice-reshare-prefix-run
 slice-reshare-prefix-run c = search needs

@@ -1,9 +1,9 @@
--- `play::contents::judged` meets its contract.
+-- `player::contents::judged` meets its contract.
 use native.Mathlib.Omega.{arith}
-use Rattle.play.proofs.Playing.{file-fits, stored-raw, stored-length, stored-status, stored-lock, stored-whole}
+use Rattle.player.proofs.Playing.{file-fits, stored-raw, stored-length, stored-status, stored-lock, stored-whole}
 use borrow.Author.Needs.{needs}
-use Rattle.play.proofs.contents.judged.Statement.{statement}
-use Rattle.play.proofs.contents.judged.Tie as tie
+use Rattle.player.proofs.contents.judged.Statement.{statement}
+use Rattle.player.proofs.contents.judged.Tie as tie
 
 stored-as-requires : tie.Need-stored-as-requires
 stored-as-requires c κs = search needs

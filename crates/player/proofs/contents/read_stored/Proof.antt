@@ -1,9 +1,9 @@
--- `play::contents::read_stored` meets its contract.
+-- `player::contents::read_stored` meets its contract.
 use native.Mathlib.Omega.{arith}
-use Rattle.play.proofs.Playing.{file-fits, no-bits, bits-of, stored-bits}
+use Rattle.player.proofs.Playing.{file-fits, no-bits, bits-of, stored-bits}
 use borrow.Author.Needs.{needs}
-use Rattle.play.proofs.contents.read_stored.Statement.{statement}
-use Rattle.play.proofs.contents.read_stored.Tie as tie
+use Rattle.player.proofs.contents.read_stored.Statement.{statement}
+use Rattle.player.proofs.contents.read_stored.Tie as tie
 
 read-up-requires : tie.Need-read-up-requires
 read-up-requires c κs = search needs

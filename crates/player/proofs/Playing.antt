@@ -7,29 +7,24 @@ use native.Mathlib.Numerals.{add-one}
 use native.Mathlib.Omega.{arith}
 use lib.ListN.{length, getD, set, take, drop, length-drop, length-append}
 use lib.Seq.{length-take-le, getD-append-add, getD-drop, drop-cons, take-suc, set-at, take-at, append-snoc}
-use lib.Dec.{eqb, leb, ltb, lit≤}
+use lib.Dec.{eqb, ltb}
 use lib.Pow.{pow-mono}
 use borrow.Rule.Slice.PartMut.{postOf, putMid}
-use borrow.Author.Tests.{eq-eqb, ne-eqb, lt-ltb, le-ltb, le-leb, eqb-true, not-false}
+use borrow.Author.Tests.{eq-eqb, ne-eqb, lt-ltb, le-ltb, eqb-true, not-false}
 use Rattle.rules.specs.declared.Row.{Row}
-use Rattle.rules.specs.declared.State.{State}
-use Rattle.rules.specs.World.{if_then_else_, bit, number, World, worldOf}
-use Rattle.rules.specs.Device.{Widths, m95040, table, isDevice, rowOf, prepared}
+use Rattle.rules.specs.World.{bit, number, World}
+use Rattle.rules.specs.Device.{Widths, isDevice, rowOf}
 use Rattle.rules.specs.Judge.{storable}
-use Rattle.rules.specs.Sound.{Sound, Lent}
 use Rattle.rules.specs.Trace.{Progress}
-use Rattle.rules.specs.Call.{lentRefusal, worldRefusal, preparedAs, prepareOutcome, runOutcome}
-use Rattle.rules.specs.Program.{hexadecimal, ending}
-use Rattle.rules.proofs.Choice.{if-elim, and-both}
+use Rattle.rules.specs.Call.{lentRefusal, worldRefusal, runOutcome}
+use Rattle.rules.proofs.Choice.{if-elim}
 use Rattle.rules.proofs.Program.{world-taken}
 use Rattle.rules.proofs.Runs.{Course}
-use Rattle.rules.proofs.Widths.{of-device, page-below}
-use Rattle.m95.proofs.Calling.{lent-good, run-course}
-use Rattle.rules.proofs.Incident.{prepared-sound, prepared-lent}
-use Rattle.text.specs.Put.{Put}
-use Rattle.play.specs.declared.contents.Fault.{Fault}
-use Rattle.play.specs.declared.contents.Stored.{Stored}
-use Rattle.play.specs.Stored.{storedAs, storedOf, loadedState}
+use Rattle.rules.proofs.Widths.{page-below}
+use Rattle.m95.proofs.Calling.{run-course}
+use Rattle.player.specs.declared.contents.Fault.{Fault}
+use Rattle.player.specs.declared.contents.Stored.{Stored}
+use Rattle.player.specs.Stored.{storedAs, storedOf}
 
 -- The length of a chip's file fits.
 pub file-fits : {row : Row} → Widths row → row .cells + row .page + 2 < 2 ^ 26
@@ -105,7 +100,7 @@ pub bits-of : (row : Row) (r q : Stored) → r ≡ q → storable row (q .status
 bits-of row r q e h = subst (λ (x : Stored). storable row (x .status) ≡ x .status) (sym e) h
 
 -- Buffers and worlds that are not refused are a device's.
-lent-known : (device : ℕ) (cells identification latch : List ℕ) → lentRefusal device cells identification latch ≡ 0 → isDevice device ≡ true
+pub lent-known : (device : ℕ) (cells identification latch : List ℕ) → lentRefusal device cells identification latch ≡ 0 → isDevice device ≡ true
 unfolding lentRefusal
 lent-known device cells identification latch z = go (isDevice device) refl
   where
@@ -139,54 +134,3 @@ module _ (device : ℕ) (w : World) (t a : List ℕ) (limit : ℕ) (p : Progress
 pub left-fits : (buf part : List ℕ) (c k m : ℕ) → c ≤ length buf → m ≤ length part → length (putMid c k buf part) ≡ length buf → c + m ≤ length buf
 left-fits buf part c k m h l e =
     omega (arith, h, l, e, length-take-le c buf h, length-append (take c buf) (part ++ postOf c k buf), length-append part (postOf c k buf))
-
--- The ending with the status in digits.
-pub status-ending : {a b : List ℕ} {i j : ℕ} (number : ℕ) (status : List ℕ) (byte : ℕ) → status ≡ hexadecimal byte → Put a i (ending number status) b j → Put a i (ending number (hexadecimal byte)) b j
-status-ending {a} {b} {i} {j} number status byte e p = subst (λ (t : List ℕ). Put a i (ending number t) b j) e p
-
--- What every device needs of the room.
-pub room : (device : ℕ) (row : Row) → row ≡ rowOf device → (row .cells ≤ 262_144) × (row .page ≤ 256)
-room device row e = rw e (entry (device - 1))
-  where
-    entry : (i : ℕ) → (getD table i m95040 .cells ≤ 262_144) × (getD table i m95040 .page ≤ 256)
-    entry zero = (lit≤ tt, lit≤ tt)
-    entry (suc zero) = (lit≤ tt, lit≤ tt)
-    entry (suc (suc zero)) = (lit≤ tt, lit≤ tt)
-    entry (suc (suc (suc zero))) = (lit≤ tt, lit≤ tt)
-    entry (suc (suc (suc (suc i)))) = (lit≤ tt, lit≤ tt)
-
-pub lent-room : (device : ℕ) (row : Row) → row ≡ rowOf device → 1 ≤ device → device ≤ 4 → (cells identification latch : List ℕ) → length cells ≡ row .cells → length identification ≡ row .page → length latch ≡ row .page + row .page
-    → lentRefusal device cells identification latch ≡ 0
-lent-room device row e a b cells identification latch ec ei el =
-    sym (lent-good device row true e (sym (and-both (leb 1 device) (leb device 4) (le-leb 1 device a) (le-leb device 4 b))) cells identification latch refl ec ei el)
-
--- A sound world stays sound with the status bits and the lock of a file, and with other cells and another identification page.
-loaded-sound : (row : Row) (s : State) (c i l c′ i′ : List ℕ) (status : ℕ) (locked : Bool) → Sound row (worldOf s c i l) → storable row status ≡ status → Sound row (worldOf (loadedState s status locked) c′ i′ l)
-loaded-sound row s c i l c′ i′ status locked h e =
-    let u = h .unsettled in
-    record {
-      unsettled =
-          record { input = u .input; inside = u .inside; stored = e; cycle = u .cycle; off = u .off; low = u .low; saw = u .saw; turned = u .turned; marks = u .marks };
-      holds = h .holds;
-    }
-
--- A prepared chip with what its file holds is not refused.
-module _ (device : ℕ) (cells identification latch : List ℕ) (z : lentRefusal device cells identification latch ≡ 0) (n : ℕ) (s : State) (c i l : List ℕ) (ew : preparedAs n (worldOf s c i l) ≡ prepareOutcome device cells identification latch) where
-  ready : worldOf s c i l ≡ prepared (rowOf device)
-  unfolding prepareOutcome
-  ready = ap (λ x. x .world) ew ∙ rw z
-
-  ready-lent : Lent (rowOf device) (worldOf s c i l)
-  ready-lent = subst (Lent (rowOf device)) (sym ready) (prepared-lent (of-device device))
-
-  pub load-fits : (row : Row) → row ≡ rowOf device → Widths row × (length c ≡ row .cells) × (length i ≡ row .page)
-  load-fits row e = rw e (of-device device, ready-lent .cells, ready-lent .identification)
-
-  pub loaded : (row : Row) (status : ℕ) (locked : Bool) (t : State) (c′ i′ : List ℕ) → row ≡ rowOf device → storable row status ≡ status → t ≡ loadedState s status locked → length c′ ≡ length c → length i′ ≡ length i
-      → worldRefusal device (worldOf t c′ i′ l) ≡ 0
-  loaded row status locked t c′ i′ er es et ec ei =
-      let bits : storable (rowOf device) status ≡ status = subst (λ (r : Row). storable r status ≡ status) er es in
-      let sound : Sound (rowOf device) (worldOf s c i l) = subst (Sound (rowOf device)) (sym ready) (prepared-sound (of-device device)) in
-      let sound′ : Sound (rowOf device) (worldOf t c′ i′ l) = rw et (loaded-sound (rowOf device) s c i l c′ i′ status locked sound bits) in
-      let lent : Lent (rowOf device) (worldOf t c′ i′ l) = record { cells = ec ∙ ready-lent .cells; identification = ei ∙ ready-lent .identification; latch = ready-lent .latch } in
-      world-taken device (worldOf t c′ i′ l) (lent-known device cells identification latch z) sound′ lent

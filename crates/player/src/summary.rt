@@ -4,7 +4,7 @@ ghost use Prim.Native.Nat.{_<_};
 ghost use mathlib.Core.Path.{_≡_};
 ghost use lib.ListN.{length, take};
 ghost use Rattle.io.specs.Counts.{Counts};
-ghost use Rattle.play.specs.Summary.{summary};
+ghost use Rattle.player.specs.Summary.{summary};
 
 // The line, at the start of a lent text, and how long it is.
 pub fn put_summary(number: usize, status: usize, records: u64, bytes: u64, out: &mut [u8]) -> usize

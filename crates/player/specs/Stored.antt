@@ -6,8 +6,8 @@ use Rattle.rules.specs.declared.Row.{Row}
 use Rattle.rules.specs.declared.State.{State}
 use Rattle.rules.specs.World.{if_then_else_, withStored}
 use Rattle.rules.specs.Judge.{storable}
-use Rattle.play.specs.declared.contents.Fault.{Fault}
-use Rattle.play.specs.declared.contents.Stored.{Stored}
+use Rattle.player.specs.declared.contents.Fault.{Fault}
+use Rattle.player.specs.declared.contents.Stored.{Stored}
 
 abbrev pub storedAs : Fault → ℕ → Bool → Stored
 storedAs fault status locked = record { fault = fault; status = status; locked = locked }
