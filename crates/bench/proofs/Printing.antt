@@ -1,14 +1,14 @@
 -- The first record, one law for each way through the rules; the run of the trace; and the text as one piece.
 use Prim.Native.Nat.{ℕ, zero, suc, _+_, _*_, _≤_, _<_}
 use mathlib.Core.Path.{_≡_, refl, sym, ap, _∙_, subst}
-use mathlib.Core.Bool.{Bool, true, false, not, _&&_}
+use mathlib.Core.Bool.{true, false, not, _&&_}
 use mathlib.Core.List.{List, _++_}
 use native.Mathlib.Omega.{arith}
 use lib.ListN.{length, getD, take, drop, replicate, length-append}
 use lib.Dec.{eqb, leb, ltb, lit≤}
 use lib.Seq.{take-append-le}
-use borrow.Author.Tests.{eq-eqb, ne-eqb, lt-ltb, le-ltb, eqb-true, leb-true, ltb-false, le-leb, not-false}
-use Rattle.rules.specs.World.{if_then_else_, World}
+use borrow.Author.Tests.{ne-eqb, lt-ltb, le-ltb, leb-true, ltb-false, le-leb, not-false}
+use Rattle.rules.specs.World.{World}
 use Rattle.rules.specs.declared.Row.{Row}
 use Rattle.rules.specs.Device.{isDevice, rowOf, prepared}
 use Rattle.rules.specs.Send.{statusByte}

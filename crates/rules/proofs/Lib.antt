@@ -4,6 +4,7 @@ pub mod Examples
 pub mod Incident
 pub mod Inside
 pub mod Latch
+pub mod Pieces
 pub mod Preserved
 pub mod Received
 pub mod Program

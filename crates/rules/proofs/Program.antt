@@ -14,7 +14,7 @@ use Rattle.rules.specs.Judge.{isProtected, allows, isWhole, isDone, judg
 use Rattle.rules.specs.Cycle.{waitedState, waited}
 use Rattle.rules.specs.Event.{react, step}
 use Rattle.rules.specs.Sound.{clauses, isSound, Sound, Lent}
-use Rattle.rules.specs.Trace.{eventAt, recordRefusal, Progress, progressOf, turn, run}
+use Rattle.rules.specs.Trace.{eventAt, recordRefusal, progressOf, turn, run}
 use Rattle.rules.specs.Call.{lentRefusal, worldRefusal, runOutcome, firstRecord}
 use Rattle.rules.specs.Program as spec
 use Rattle.rules.proofs.Incident.{prepared-sound, prepared-lent}

@@ -6,8 +6,8 @@ use mathlib.Core.List.{List}
 use native.Mathlib.Omega.{arith}
 use lib.ListN.{set, length, length-set}
 use lib.Dec.{eqb, leb, ltb}
-use borrow.Author.Tests.{eq-eqb, ne-eqb, lt-ltb, le-leb, lt-leb, eqb-true, eqb-false, leb-true, leb-false, ltb-false, not-false}
-use Rattle.rules.specs.World.{if_then_else_, Row, Event, State, World}
+use borrow.Author.Tests.{ne-eqb, lt-leb, eqb-true, eqb-false, leb-true, leb-false, ltb-false, not-false}
+use Rattle.rules.specs.World.{Row, Event, State, World}
 use Rattle.rules.specs.Device.{Widths}
 use Rattle.rules.specs.Instruction.{busy}
 use Rattle.rules.specs.Event.{step, answer, isPower, refusal}
@@ -23,6 +23,7 @@ pub record Ready (t : List ℕ) (at : ℕ) (full : Bool) (s : State) : Type 0 wh
   pub known : lengthOf (two t (at + 2)) ≡ 0 → ⊥
   pub size : two t at ≡ lengthOf (two t (at + 2))
   pub body : 2 + two t at ≤ length t - at
+  pub pin : badPin t at (two t (at + 2)) ≡ false
   pub room : full ≡ false
   pub taken : refusal (eventAt t at) s ≡ 0
 
@@ -44,6 +45,7 @@ ready t at full s =
       known = eqb-false (lengthOf kind) 0 hk;
       size = eqb-true (two t at) (lengthOf kind) (not-false (eqb (two t at) (lengthOf kind)) hs);
       body = ltb-false left (2 + two t at) hb;
+      pin = hp;
       room = hf;
       taken = e;
     }))))))
@@ -101,6 +103,33 @@ run-stays (suc k) row t p e = ap (run k row t) e ∙ run-stays k row t p e
 pub run-turn : (limit n : ℕ) (row : Row) (t : List ℕ) (p : Progress) → n < limit → run (limit - n) row t p ≡ run (limit - (n + 1)) row t (turn row t p)
 run-turn limit n row t p h = let e : limit - n ≡ suc (limit - (n + 1)) = omega arith in ap (λ (k : ℕ). run k row t p) e
 
+-- One turn of any run, in the three ways that it can go.
+module _ (row : Row) (t : List ℕ) (P : Progress → Progress → Type 0) (p : Progress) where
+  pub by-turn : ((p .number ≡ 0 → p .taken < length t → ⊥) → turn row t p ≡ p → P p p)
+      → ((r : ℕ) → p .number ≡ 0 → p .taken < length t → r ≡ recordRefusal t (p .taken) (leb (length (p .answers)) (p .done)) (p .world .state) → (r ≡ 0 → ⊥) → P p (progressOf r (p .taken) (p .done) (p .world) (p .answers)))
+      → ((u : World) (v : ℕ) → p .number ≡ 0 → p .taken < length t → recordRefusal t (p .taken) (leb (length (p .answers)) (p .done)) (p .world .state) ≡ 0 → u ≡ step row (eventAt t (p .taken)) (p .world)
+      → P p (progressOf 0 (p .taken + 2 + two t (p .taken)) (p .done + 1) u (set (p .answers) (p .done) v)))
+      → P p (turn row t p)
+  by-turn over refused does = ends (eqb (p .number) 0) refl (leb (length t) (p .taken)) refl
+    where
+      stays : (p .number ≡ 0 → p .taken < length t → ⊥) → (not (eqb (p .number) 0) || leb (length t) (p .taken)) ≡ true → P p (turn row t p)
+      stays n e = let o = turn-over row t p e in subst (P p) (sym o) (over n o)
+
+      goes : p .number ≡ 0 → p .taken < length t → (r : ℕ) → recordRefusal t (p .taken) (leb (length (p .answers)) (p .done)) (p .world .state) ≡ r → P p (turn row t p)
+      goes z h zero e =
+          let shape : p ≡ progressOf 0 (p .taken) (p .done) (p .world) (p .answers) = ap (λ (m : ℕ). progressOf m (p .taken) (p .done) (p .world) (p .answers)) z in
+          let moved = turn-does row t (p .taken) (p .done) (p .world) (p .answers) h (two t (p .taken)) _ (eventAt t (p .taken)) (step row (eventAt t (p .taken)) (p .world)) e refl refl refl refl in
+          subst (P p) (moved ∙ ap (turn row t) (sym shape)) (does _ _ z h e refl)
+      goes z h (suc r) e =
+          let shape : p ≡ progressOf 0 (p .taken) (p .done) (p .world) (p .answers) = ap (λ (m : ℕ). progressOf m (p .taken) (p .done) (p .world) (p .answers)) z in
+          let stopped = turn-refused row t (p .taken) (p .done) (p .world) (p .answers) h (suc r) (sym e) (λ x. absurd (omega arith)) ∙ ap (turn row t) (sym shape) in
+          subst (P p) stopped (refused (suc r) z h (sym e) (λ x. absurd (omega arith)))
+
+      ends : (z : Bool) → eqb (p .number) 0 ≡ z → (b : Bool) → leb (length t) (p .taken) ≡ b → P p (turn row t p)
+      ends false ez b eb = stays (λ z _. eqb-false (p .number) 0 ez z) (rw ez)
+      ends true ez true eb = stays (λ _ h. absurd (omega (arith, leb-true (length t) (p .taken) eb))) (rw (ez, eb))
+      ends true ez false eb = goes (eqb-true (p .number) 0 ez) (leb-false (length t) (p .taken) eb) _ refl
+
 -- What holds after k turns of a run that has room for its answers.
 pub record Course (row : Row) (t : List ℕ) (room k : ℕ) (p : Progress) : Type 0 where
   pub sound : Sound row (p .world)
@@ -112,64 +141,45 @@ pub record Course (row : Row) (t : List ℕ) (room k : ℕ) (p : Progress) : Typ
   pub counted : p .number ≡ 0 → p .taken < length t → p .done ≡ k
 
 module _ (row : Row) (v : Widths row) (t : List ℕ) (room : ℕ) (enough : length t ≤ room) where
-  over-course : (k : ℕ) (p : Progress) → ((p .number ≡ 0) → p .taken < length t → ⊥) → Course row t room k p → Course row t room (suc k) p
-  over-course k p o c =
-      record { sound = c .sound; lent = c .lent; few = c .few; inside = c .inside; long = c .long; roomy = c .roomy; counted = λ z h. absurd (o z h) }
+  module _ (k : ℕ) (p : Progress) (c : Course row t room k p) where
+    over-course : (p .number ≡ 0 → p .taken < length t → ⊥) → Course row t room (suc k) p
+    over-course o =
+        record { sound = c .sound; lent = c .lent; few = c .few; inside = c .inside; long = c .long; roomy = c .roomy; counted = λ z h. absurd (o z h) }
 
-  -- One turn more, where the run is not over.
-  module _ (k at n : ℕ) (w : World) (a : List ℕ) (c : Course row t room k (progressOf 0 at n w a)) (h : at < length t) where
-    full : leb (length a) n ≡ false
-    full = lt-leb (length a) n (omega (arith, c .few, c .long, enough, h))
+    full : p .taken < length t → leb (length (p .answers)) (p .done) ≡ false
+    full h = lt-leb (length (p .answers)) (p .done) (omega (arith, c .few, c .long, enough, h))
 
-    refused-course : (r : ℕ) → r ≡ recordRefusal t at (leb (length a) n) (w .state) → (r ≡ 0 → ⊥) → Course row t room (suc k) (progressOf r at n w a)
-    refused-course r e z =
+    refused-course : (r : ℕ) → p .taken < length t → r ≡ recordRefusal t (p .taken) (leb (length (p .answers)) (p .done)) (p .world .state) → (r ≡ 0 → ⊥) → Course row t room (suc k) (progressOf r (p .taken) (p .done) (p .world) (p .answers))
+    refused-course r h e z =
         record {
           sound = c .sound;
           lent = c .lent;
           few = c .few;
           inside = c .inside;
           long = c .long;
-          roomy = λ ten. clash (sym (ten-full t at (leb (length a) n) (w .state) (sym e ∙ ten)) ∙ full);
+          roomy = λ ten. clash (sym (ten-full t (p .taken) (leb (length (p .answers)) (p .done)) (p .world .state) (sym e ∙ ten)) ∙ full h);
           counted = λ o _. absurd (z o);
         }
 
-    does-course : recordRefusal t at (leb (length a) n) (w .state) ≡ 0
-        → (u : World) (b : ℕ) → u ≡ step row (eventAt t at) w → Course row t room (suc k) (progressOf 0 (at + 2 + two t at) (n + 1) u (set a n b))
-    does-course r u b eu =
-        let f = ready t at (leb (length a) n) (w .state) r in
-        let two-least : 2 ≤ two t at = subst (λ (m : ℕ). 2 ≤ m) (sym (f .size)) (length-least (two t (at + 2)) (f .known)) in
-        let p = preserved row v (eventAt t at) w (c .sound) (c .lent) in
+    does-course : (u : World) (b : ℕ) → p .number ≡ 0 → p .taken < length t → recordRefusal t (p .taken) (leb (length (p .answers)) (p .done)) (p .world .state) ≡ 0 → u ≡ step row (eventAt t (p .taken)) (p .world)
+        → Course row t room (suc k) (progressOf 0 (p .taken + 2 + two t (p .taken)) (p .done + 1) u (set (p .answers) (p .done) b))
+    does-course u b z h r eu =
+        let f = ready t (p .taken) (leb (length (p .answers)) (p .done)) (p .world .state) r in
+        let two-least : 2 ≤ two t (p .taken) = subst (λ (m : ℕ). 2 ≤ m) (sym (f .size)) (length-least (two t (p .taken + 2)) (f .known)) in
+        let kept = preserved row v (eventAt t (p .taken)) (p .world) (c .sound) (c .lent) in
         record {
-          sound = subst (Sound row) (sym eu) (p .0);
-          lent = subst (Lent row) (sym eu) (p .1);
+          sound = subst (Sound row) (sym eu) (kept .0);
+          lent = subst (Lent row) (sym eu) (kept .1);
           few = omega (arith, c .few, two-least);
           inside = omega (arith, f .body, h);
-          long = length-set a n b ∙ c .long;
+          long = length-set (p .answers) (p .done) b ∙ c .long;
           roomy = λ e. absurd (omega arith);
-          counted = λ _ _. omega (arith, c .counted refl h);
+          counted = λ _ _. omega (arith, c .counted z h);
         }
 
-    turn-course : Course row t room (suc k) (turn row t (progressOf 0 at n w a))
-    turn-course = go (recordRefusal t at (leb (length a) n) (w .state)) refl
-      where
-        go : (r : ℕ) → recordRefusal t at (leb (length a) n) (w .state) ≡ r → Course row t room (suc k) (turn row t (progressOf 0 at n w a))
-        go zero e = subst (Course row t room (suc k)) (turn-does row t at n w a h (two t at) _ (eventAt t at) (step row (eventAt t at) w) e refl refl refl refl) (does-course e _ _ refl)
-        go (suc r) e = subst (Course row t room (suc k)) (turn-refused row t at n w a h (suc r) (sym e) (λ z. absurd (omega arith))) (refused-course (suc r) (sym e) (λ z. absurd (omega arith)))
-
   one-course : (k : ℕ) (p : Progress) → Course row t room k p → Course row t room (suc k) (turn row t p)
-  one-course k p c = ends (eqb (p .number) 0) refl (leb (length t) (p .taken)) refl
-    where
-      stays : (not (eqb (p .number) 0) || leb (length t) (p .taken)) ≡ true → ((p .number ≡ 0) → p .taken < length t → ⊥) → Course row t room (suc k) (turn row t p)
-      stays e o = subst (Course row t room (suc k)) (sym (turn-over row t p e)) (over-course k p o c)
-
-      ends : (z : Bool) → eqb (p .number) 0 ≡ z → (b : Bool) → leb (length t) (p .taken) ≡ b → Course row t room (suc k) (turn row t p)
-      ends false ez b eb = stays (rw ez) (λ z _. eqb-false (p .number) 0 ez z)
-      ends true ez true eb = stays (rw (ez, eb)) (λ _ h. absurd (omega (arith, leb-true (length t) (p .taken) eb)))
-      ends true ez false eb =
-          let z : p .number ≡ 0 = eqb-true (p .number) 0 ez in
-          let shape : p ≡ progressOf 0 (p .taken) (p .done) (p .world) (p .answers) = ap (λ (m : ℕ). progressOf m (p .taken) (p .done) (p .world) (p .answers)) z in
-          subst (λ (q : Progress). Course row t room (suc k) (turn row t q)) (sym shape)
-          (turn-course k (p .taken) (p .done) (p .world) (p .answers) (subst (Course row t room k) shape c) (omega (arith, leb-false (length t) (p .taken) eb)))
+  one-course k p c =
+      by-turn row t (λ (_ q : Progress). Course row t room (suc k) q) p (λ o _. over-course k p c o) (λ r _ h e z. refused-course k p c r h e z) (λ u b z h r e. does-course k p c u b z h r e)
 
   run-course : (k turns : ℕ) (p : Progress) → Course row t room k p → Course row t room (k + turns) (run turns row t p)
   run-course k zero p c = subst (λ (m : ℕ). Course row t room m p) (omega arith) c

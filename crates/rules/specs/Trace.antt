@@ -1,5 +1,5 @@
 -- 01, "Traces": records, and running them within a limit.
-use Rattle.rules.specs.World.{ℕ, zero, suc, _+_, _-_, _*_, _/_, Bool, not, _&&_, _||_, List, [], _∷_, getD, set, length, eqb, leb, ltb, if_then_else_, bit, Row, Level, Event, State, World}
+use Rattle.rules.specs.World.{ℕ, zero, suc, _+_, _-_, _*_, _/_, _≡_, Bool, not, _&&_, _||_, List, [], _∷_, _++_, getD, set, take, drop, length, eqb, leb, ltb, if_then_else_, bit, Row, Level, Event, State, World}
 use Rattle.rules.specs.Event.{step, answer, refusal}
 
 -- Little-endian numbers of two and four bytes.
@@ -80,3 +80,15 @@ turn row t p =
 abbrev pub run : ℕ → Row → List ℕ → Progress → Progress
 run zero row t p = p
 run (suc limit) row t p = run limit row t (turn row t p)
+
+-- What two pieces of a trace give together: the second goes on where the first stopped, and its answers stand behind the first's.
+abbrev pub glued : Progress → Progress → Progress
+glued p q = progressOf (q .number) (p .taken + q .taken) (p .done + q .done) (q .world) (take (p .done) (p .answers) ++ q .answers)
+
+-- The theorem `pieces`: a trace a ++ b may be run in two pieces, cut anywhere. What the first leaves untaken is put in front of b, and the
+-- second goes on in the world and with the answer bytes that the first left. Together they give what the whole trace gives.
+abbrev pub Pieces : Type 0
+Pieces = (row : Row) (a b : List ℕ) (w : World) (answers : List ℕ) (k m : ℕ) →
+    let p = run k row a (progressOf 0 0 0 w answers) in
+    let q = run m row (drop (p .taken) (a ++ b)) (progressOf 0 0 0 (p .world) (drop (p .done) (p .answers))) in
+    run (p .done + m) row (a ++ b) (progressOf 0 0 0 w answers) ≡ glued p q

@@ -9,10 +9,9 @@ use native.Mathlib.Omega.{arith}
 use lib.ListN.{length, getD, take, length-append, length-take}
 use lib.Seq.{length-take-le, take-append-add, take-append-le, take-length, take-all, take-suc}
 use lib.Dec.{ltb, lit<}
-use borrow.Author.Tests.{lt-ltb, le-ltb, ltb-true, ltb-false}
+use borrow.Author.Tests.{lt-ltb, ltb-true, ltb-false}
 use Rattle.io.specs.Counts.{Counts}
 use Rattle.io.specs.Digits.{glyph, digits, Fewest}
-use Rattle.rules.specs.World.{if_then_else_}
 use Rattle.rules.proofs.Choice.{if-elim}
 use Rattle.rules.specs.Program.{digit, decimalIn, decimal, shown, line, lines, ending}
 use Rattle.text.specs.Put.{Put}

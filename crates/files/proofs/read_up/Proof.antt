@@ -8,7 +8,7 @@ use lib.ListN.{length}
 use lib.Seq.{length-take-le}
 use lib.Dec.{ltb}
 use borrow.Author.Tests.{ltb-true}
-use borrow.Rule.Slice.PartMut.{midOf, putMid, same-len-mid, mid-len}
+use borrow.Rule.Slice.PartMut.{midOf, putMid, mid-len}
 use borrow.Author.Needs.{needs}
 use Rattle.files.proofs.read_up.Statement.{statement}
 use Rattle.files.proofs.read_up.Tie as tie

@@ -1,6 +1,6 @@
 -- `bench::program::put_trace` meets its contract.
 use native.Mathlib.Omega.{arith}
-use mathlib.Core.Path.{sym, _∙_}
+use mathlib.Core.Path.{sym}
 use lib.Seq.{length-take-le}
 use Rattle.m95.proofs.Calling.{lent-room}
 use Rattle.bench.proofs.Printing.{room, a-device, ran-few, ran-room, ran-status, ran-text}

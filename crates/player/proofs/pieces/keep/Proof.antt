@@ -1,9 +1,9 @@
 -- `player::pieces::keep` meets its contract.
 use Prim.Native.Nat.{ℕ, _-_, _≤_}
-use mathlib.Core.Path.{_≡_, refl, _∙_, ap, subst}
+use mathlib.Core.Path.{_≡_, refl, _∙_, ap}
 use mathlib.Core.List.{List}
 use native.Mathlib.Omega.{arith}
-use lib.ListN.{length, take, drop, length-set}
+use lib.ListN.{length, take, length-set}
 use Rattle.player.proofs.Playing.{moved, moved-more, moved-all}
 use Rattle.player.proofs.pieces.keep.Statement.{statement}
 use Rattle.player.proofs.pieces.keep.Tie as tie

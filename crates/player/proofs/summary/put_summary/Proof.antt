@@ -1,6 +1,6 @@
 -- `player::summary::put_summary` meets its contract.
 use Prim.Native.Nat.{ℕ}
-use mathlib.Core.Path.{ap, _∙_, subst}
+use mathlib.Core.Path.{ap}
 use mathlib.Core.List.{List}
 use native.Mathlib.Omega.{arith}
 use lib.ListN.{length}

@@ -1,0 +1,43 @@
+//! `wrong_play FAULT DEVICE CHIP TRACE ANSWERS` is `play` with one named fault: something for `compare` to find.
+//! `wrong_play list` prints the names of the faults that a `play` can have.
+
+use std::process::ExitCode;
+
+use m95::{play_files, Fault};
+
+fn main() -> ExitCode {
+    let arguments: Vec<String> = std::env::args().skip(1).collect();
+    match arguments.split_first() {
+        Some((word, [])) if word == "list" => {
+            library_faults().for_each(|fault| println!("{fault:?}"));
+            ExitCode::SUCCESS
+        }
+        Some((name, rest)) => play_with(name, rest),
+        None => bad_use("the arguments are FAULT DEVICE CHIP TRACE ANSWERS, or list"),
+    }
+}
+
+fn library_faults() -> impl Iterator<Item = Fault> {
+    Fault::ALL
+        .iter()
+        .copied()
+        .filter(|fault| !fault.is_of_bench())
+}
+
+fn play_with(name: &str, arguments: &[String]) -> ExitCode {
+    let Some(fault) = library_faults().find(|fault| format!("{fault:?}") == name) else {
+        return bad_use(&format!("{name} is no fault of the list"));
+    };
+    match play_files(fault, arguments) {
+        Ok(line) => {
+            print!("{line}");
+            ExitCode::SUCCESS
+        }
+        Err(reason) => bad_use(&reason),
+    }
+}
+
+fn bad_use(reason: &str) -> ExitCode {
+    eprintln!("wrong_play: {reason}");
+    ExitCode::from(2)
+}

@@ -1,0 +1,192 @@
+//! The calls of the library (document 01, "Traces" and "Numbers given back"). A refused call leaves what the table
+//! of numbers says.
+
+use crate::device::{device, Device};
+use crate::number::Number;
+use crate::rules::Chip;
+use crate::state::{is_sound, Output, State};
+use crate::trace::{read_record, Event};
+
+/// What the identification page of device 4 starts with when prepared.
+pub(crate) const IDENTIFICATION_CODE: [u8; 3] = [0x20, 0x00, 0x12];
+
+/// How running a trace ended.
+#[derive(Clone, Copy, Debug, PartialEq, Eq)]
+pub struct Ran {
+    pub number: Number,
+    /// Records done, each with its answer.
+    pub done: usize,
+    /// Bytes that they took.
+    pub taken: usize,
+}
+
+/// Prepares a device. The latch may hold anything before; it is overwritten.
+pub fn prepare(
+    device: u8,
+    cells: &mut [u8],
+    identification: &mut [u8],
+    latch: &mut [u8],
+) -> (Number, State) {
+    let row = match judge_lent(device, cells, identification, latch) {
+        Ok(row) => row,
+        Err(number) => return (number, State::prepared()),
+    };
+    cells.fill(0xFF);
+    identification.fill(0xFF);
+    latch.fill(0);
+    if row.number == 4 {
+        identification[..IDENTIFICATION_CODE.len()].copy_from_slice(&IDENTIFICATION_CODE);
+    }
+    (Number::Done, State::prepared())
+}
+
+/// Does one event; a refused one answers Z.
+pub fn event(
+    device: u8,
+    state: &mut State,
+    cells: &mut [u8],
+    identification: &mut [u8],
+    latch: &mut [u8],
+    event: Event,
+) -> (Number, Output) {
+    let mut chip = match lend(device, state, cells, identification, latch) {
+        Ok(chip) => chip,
+        Err(number) => return (number, Output::Z),
+    };
+    if chip.refuses(event) {
+        return (Number::Power, Output::Z);
+    }
+    (Number::Done, chip.event(event))
+}
+
+/// Runs at most `limit` records of a trace and writes one answer byte for each.
+#[allow(clippy::too_many_arguments)] // document 01 lends each buffer by itself
+pub fn run(
+    device: u8,
+    state: &mut State,
+    cells: &mut [u8],
+    identification: &mut [u8],
+    latch: &mut [u8],
+    trace: &[u8],
+    answers: &mut [u8],
+    limit: usize,
+) -> Ran {
+    match lend(device, state, cells, identification, latch) {
+        Ok(mut chip) => run_records(&mut chip, trace, answers, limit),
+        Err(number) => Ran {
+            number,
+            done: 0,
+            taken: 0,
+        },
+    }
+}
+
+/// The loop over the records. At the limit nothing more is looked at; a refused record has done nothing.
+fn run_records(chip: &mut Chip, trace: &[u8], answers: &mut [u8], limit: usize) -> Ran {
+    let (mut done, mut taken) = (0, 0);
+    while done < limit && taken < trace.len() {
+        match judge_record(chip, &trace[taken..], done < answers.len()) {
+            Ok((event, bytes)) => {
+                answers[done] = chip.event(event) as u8;
+                done += 1;
+                taken += bytes;
+            }
+            Err(number) => {
+                return Ran {
+                    number,
+                    done,
+                    taken,
+                }
+            }
+        }
+    }
+    Ran {
+        number: Number::Done,
+        done,
+        taken,
+    }
+}
+
+/// All that can refuse a record: what `read_record` judges, then 10, then 11.
+#[inline(always)]
+pub(crate) fn judge_record(
+    chip: &Chip,
+    bytes: &[u8],
+    has_room: bool,
+) -> Result<(Event, usize), Number> {
+    let record = read_record(bytes)?;
+    if !has_room {
+        return Err(Number::Answers);
+    }
+    if chip.refuses(record.0) {
+        return Err(Number::Power);
+    }
+    Ok(record)
+}
+
+/// The page of cells that holds `address`, lent and not copied; empty when refused.
+pub fn cell_page(number: u8, cells: &[u8], address: usize) -> (Number, &[u8]) {
+    let Some(row) = device(number) else {
+        return (Number::Device, &[]);
+    };
+    if cells.len() != row.cells {
+        return (Number::Cells, &[]);
+    }
+    if address >= row.cells {
+        return (Number::Address, &[]);
+    }
+    let start = address & !(row.page - 1);
+    (Number::Done, &cells[start..start + row.page])
+}
+
+/// The identification page, lent and not copied; empty when refused.
+pub fn identification_page(number: u8, identification: &[u8]) -> (Number, &[u8]) {
+    match device(number) {
+        None => (Number::Device, &[]),
+        Some(row) if identification.len() != row.page => (Number::Identification, &[]),
+        Some(_) => (Number::Done, identification),
+    }
+}
+
+/// Numbers 1 to 4, in their order.
+fn judge_lent(
+    number: u8,
+    cells: &[u8],
+    identification: &[u8],
+    latch: &[u8],
+) -> Result<&'static Device, Number> {
+    let row = device(number).ok_or(Number::Device)?;
+    if cells.len() != row.cells {
+        return Err(Number::Cells);
+    }
+    if identification.len() != row.page {
+        return Err(Number::Identification);
+    }
+    if latch.len() != 2 * row.page {
+        return Err(Number::Latch);
+    }
+    Ok(row)
+}
+
+/// Numbers 1 to 5, then the chip that the rules work on.
+pub(crate) fn lend<'a>(
+    number: u8,
+    state: &'a mut State,
+    cells: &'a mut [u8],
+    identification: &'a mut [u8],
+    latch: &'a mut [u8],
+) -> Result<Chip<'a>, Number> {
+    let device = judge_lent(number, cells, identification, latch)?;
+    let (data, marks) = latch.split_at_mut(device.page);
+    if !is_sound(device, state, marks) {
+        return Err(Number::State);
+    }
+    Ok(Chip {
+        device,
+        state,
+        cells,
+        identification,
+        data,
+        marks,
+    })
+}

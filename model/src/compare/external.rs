@@ -1,0 +1,148 @@
+//! Other programs, and the files they are given.
+
+use std::fs::{self, File};
+use std::io::{self, ErrorKind};
+use std::path::{Path, PathBuf};
+use std::process::{Command, Output, Stdio};
+
+use crate::device::Device;
+
+/// A command, split at spaces.
+#[derive(Clone)]
+pub(super) struct Program {
+    words: Vec<String>,
+}
+
+/// What a `play` left.
+pub(super) struct Given {
+    pub text: String,
+    pub answers: Vec<u8>,
+    pub chip: Vec<u8>,
+}
+
+impl Program {
+    pub fn new(command: &str) -> Program {
+        Program {
+            words: command.split_whitespace().map(String::from).collect(),
+        }
+    }
+
+    fn command(&self) -> io::Result<Command> {
+        let (first, rest) = self
+            .words
+            .split_first()
+            .ok_or_else(|| io::Error::new(ErrorKind::InvalidInput, "an empty command"))?;
+        let mut command = Command::new(first);
+        command.args(rest);
+        Ok(command)
+    }
+
+    /// Runs `play` on the trace and the device's chip.
+    pub fn play(&self, device: &Device, files: &Files) -> io::Result<Given> {
+        files.remove("answers")?;
+        let chip = super::chip_name(device);
+        let output = self
+            .command()?
+            .arg(device.number.to_string())
+            .args([
+                files.path(&chip),
+                files.path("trace"),
+                files.path("answers"),
+            ])
+            .output()?;
+        Ok(Given {
+            text: text(&output),
+            answers: files.read_or_empty("answers")?,
+            chip: files.read_or_empty(&chip)?,
+        })
+    }
+
+    /// Runs `bench` with the trace as standard input.
+    pub fn bench(&self, files: &Files) -> io::Result<String> {
+        let input = File::open(files.path("trace"))?;
+        let output = self.command()?.stdin(Stdio::from(input)).output()?;
+        Ok(text(&output))
+    }
+}
+
+/// Standard output; a program that failed adds how, which then shows as a difference.
+fn text(output: &Output) -> String {
+    let mut text = String::from_utf8_lossy(&output.stdout).into_owned();
+    if !output.status.success() {
+        text.push_str(&format!("failed with {}: ", output.status));
+        text.push_str(&String::from_utf8_lossy(&output.stderr));
+    }
+    text
+}
+
+/// The directory of the files; those of a difference stay.
+pub(super) struct Files {
+    directory: PathBuf,
+    kept: bool,
+}
+
+impl Files {
+    /// Files that an earlier comparison kept are taken away, so that none is mistaken for one of this comparison.
+    pub fn new(directory: &Path) -> io::Result<Files> {
+        fs::create_dir_all(directory)?;
+        let files = Files {
+            directory: directory.to_path_buf(),
+            kept: false,
+        };
+        files.clear()?;
+        Ok(files)
+    }
+
+    pub fn path(&self, name: &str) -> PathBuf {
+        self.directory.join(name)
+    }
+
+    pub fn write(&self, name: &str, bytes: &[u8]) -> io::Result<()> {
+        fs::write(self.path(name), bytes)
+    }
+
+    pub fn copy(&self, from: &str, to: &str) -> io::Result<()> {
+        fs::copy(self.path(from), self.path(to)).map(drop)
+    }
+
+    /// A file that a program did not make counts as an empty one.
+    fn read_or_empty(&self, name: &str) -> io::Result<Vec<u8>> {
+        match fs::read(self.path(name)) {
+            Err(error) if error.kind() == ErrorKind::NotFound => Ok(Vec::new()),
+            read => read,
+        }
+    }
+
+    pub fn remove(&self, name: &str) -> io::Result<()> {
+        match fs::remove_file(self.path(name)) {
+            Err(error) if error.kind() == ErrorKind::NotFound => Ok(()),
+            removed => removed,
+        }
+    }
+
+    /// Keeps what is there now.
+    pub fn keep(&mut self) {
+        self.kept = true;
+    }
+
+    /// Takes away what is not to be kept.
+    pub fn clear(&self) -> io::Result<()> {
+        if self.kept {
+            return Ok(());
+        }
+        for name in [
+            "chip1",
+            "chip2",
+            "chip3",
+            "chip4",
+            "chip-before",
+            "chip-expected",
+            "trace",
+            "answers",
+            "answers-expected",
+        ] {
+            self.remove(name)?;
+        }
+        Ok(())
+    }
+}

@@ -1,0 +1,206 @@
+//! What a chip keeps without its board: the contents that `play` reads from and writes to a file, and one run of a
+//! trace over them.
+
+use crate::calls::{prepare, run, Ran};
+use crate::device::Device;
+use crate::fault::Fault;
+use crate::generate::Random;
+use crate::mistakes::{self, run_wrongly};
+use crate::state::{status_byte, State};
+
+/// Fills the room for answers; no answer has this value.
+const UNTOUCHED: u8 = 0xEE;
+
+/// The stored contents of one chip.
+#[derive(Clone, Debug, PartialEq, Eq)]
+pub struct Contents {
+    pub cells: Vec<u8>,
+    pub identification: Vec<u8>,
+    pub status: u8,
+    pub locked: bool,
+}
+
+impl Contents {
+    /// The contents of a prepared chip.
+    pub fn prepared(device: &Device) -> Contents {
+        let mut cells = vec![0; device.cells];
+        let mut identification = vec![0; device.page];
+        let mut latch = vec![0; 2 * device.page];
+        let (_, state) = prepare(device.number, &mut cells, &mut identification, &mut latch);
+        Contents {
+            cells,
+            identification,
+            status: state.status,
+            locked: state.locked,
+        }
+    }
+
+    /// `prepared`, with a mistake.
+    pub fn prepared_wrongly(fault: Fault, device: &Device) -> Contents {
+        let mut contents = Contents::prepared(device);
+        mistakes::prepared(fault, device, &mut contents.identification);
+        contents
+    }
+
+    /// Any contents that the device can have, but the lock as asked for.
+    pub fn random(device: &Device, random: &mut Random, locked: bool) -> Contents {
+        let mut contents = Contents::prepared(device);
+        for byte in contents
+            .cells
+            .iter_mut()
+            .chain(&mut contents.identification)
+        {
+            *byte = random.byte();
+        }
+        contents.status = random.byte() & device.status_bits();
+        contents.locked = locked;
+        contents
+    }
+
+    /// Reads the long form (cells, identification page, status bits, lock) or a raw image of the cells.
+    pub fn from_bytes(device: &Device, bytes: &[u8]) -> Result<Contents, String> {
+        let mut contents = Contents::prepared(device);
+        let long = device.cells + device.page + 2;
+        if bytes.len() != device.cells && bytes.len() != long {
+            return Err(format!(
+                "chip has {} bytes, device {} needs {} or {}",
+                bytes.len(),
+                device.number,
+                long,
+                device.cells
+            ));
+        }
+        let (cells, rest) = bytes.split_at(device.cells);
+        contents.cells.copy_from_slice(cells);
+        if rest.is_empty() {
+            return Ok(contents);
+        }
+        let (identification, bits) = rest.split_at(device.page);
+        contents.identification.copy_from_slice(identification);
+        if bits[0] & !device.status_bits() != 0 {
+            return Err(format!(
+                "status {:02X} has bits that device {} has not",
+                bits[0], device.number
+            ));
+        }
+        if bits[1] > 1 {
+            return Err(format!("lock is {}, not 0 or 1", bits[1]));
+        }
+        contents.status = bits[0];
+        contents.locked = bits[1] == 1;
+        Ok(contents)
+    }
+
+    /// The long form.
+    pub fn to_bytes(&self) -> Vec<u8> {
+        let mut bytes = self.cells.clone();
+        bytes.extend_from_slice(&self.identification);
+        bytes.extend_from_slice(&[self.status, u8::from(self.locked)]);
+        bytes
+    }
+}
+
+/// What one run of a trace gave.
+#[derive(Clone, Debug, PartialEq, Eq)]
+pub struct Played {
+    pub ran: Ran,
+    /// The byte RDSR would send at the end.
+    pub status_byte: u8,
+    /// One byte for each record done.
+    pub answers: Vec<u8>,
+    /// Whether the room for more answers is as it was.
+    pub rest_untouched: bool,
+    /// The latch at the end, data and marks; a chip's file does not keep it.
+    pub latch: Vec<u8>,
+}
+
+impl Played {
+    /// The line that `play` prints.
+    pub fn line(&self) -> String {
+        format!(
+            "end {} {:02X} records {} bytes {}\n",
+            self.ran.number as u8, self.status_byte, self.ran.done, self.ran.taken
+        )
+    }
+}
+
+/// Runs a whole trace over a chip's contents. A cycle that still runs at the end is lost, its change has not come.
+pub fn play(device: &Device, contents: &mut Contents, trace: &[u8]) -> Played {
+    let room = most_records(trace);
+    play_by(device, contents, room, |state, chip, latch, answers| {
+        let (cells, identification) = (&mut chip.cells, &mut chip.identification);
+        let number = device.number;
+        run(
+            number,
+            state,
+            cells,
+            identification,
+            latch,
+            trace,
+            answers,
+            usize::MAX,
+        )
+    })
+}
+
+/// `play` with a mistake, with room for no more than `room` answers and at most `limit` records.
+pub fn play_wrongly(
+    fault: Fault,
+    device: &Device,
+    contents: &mut Contents,
+    trace: &[u8],
+    room: usize,
+    limit: usize,
+) -> Played {
+    let room = room.min(most_records(trace));
+    play_by(device, contents, room, |state, chip, latch, answers| {
+        let (cells, identification) = (&mut chip.cells, &mut chip.identification);
+        let number = device.number;
+        run_wrongly(
+            fault,
+            number,
+            state,
+            cells,
+            identification,
+            latch,
+            trace,
+            answers,
+            limit,
+        )
+    })
+}
+
+/// Gives `run` a device with these contents, at rest, and takes the contents back.
+fn play_by(
+    device: &Device,
+    contents: &mut Contents,
+    room: usize,
+    run: impl FnOnce(&mut State, &mut Contents, &mut [u8], &mut [u8]) -> Ran,
+) -> Played {
+    let mut state = State {
+        status: contents.status,
+        locked: contents.locked,
+        ..State::prepared()
+    };
+    let mut latch = vec![0; 2 * device.page];
+    let mut answers = vec![UNTOUCHED; room];
+    let ran = run(&mut state, contents, &mut latch, &mut answers);
+    contents.status = state.status;
+    contents.locked = state.locked;
+    let rest = &answers[ran.done..];
+    let rest_untouched = rest.iter().all(|&byte| byte == UNTOUCHED);
+    answers.truncate(ran.done);
+    Played {
+        ran,
+        status_byte: status_byte(&state),
+        answers,
+        rest_untouched,
+        latch,
+    }
+}
+
+/// No record is shorter than its head, so no trace has more records than this; one more keeps room for a refused
+/// one.
+fn most_records(trace: &[u8]) -> usize {
+    trace.len() / crate::trace::HEAD + 1
+}

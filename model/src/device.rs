@@ -1,0 +1,108 @@
+//! The one table of devices (document 01, "What the bench models"). Every rule that differs between devices reads
+//! its number here.
+
+/// The block protection bits BP1 and BP0 of the status register.
+pub const BP: u8 = 0b0000_1100;
+/// The status register write disable bit.
+pub const SRWD: u8 = 0b1000_0000;
+
+/// One row of the table.
+#[derive(Debug, PartialEq, Eq)]
+pub struct Device {
+    pub number: u8,
+    pub name: &'static str,
+    /// Bytes of the array; a power of two on all four devices.
+    pub cells: usize,
+    /// Bytes of a page; the identification page is one page long.
+    pub page: usize,
+    pub address_bytes: u8,
+    /// Microseconds that a cycle takes.
+    pub write_time: u32,
+    pub has_srwd: bool,
+}
+
+/// The table itself, in the order of the device numbers.
+pub const DEVICES: [Device; 4] = [
+    Device {
+        number: 1,
+        name: "M95040-DF",
+        cells: 512,
+        page: 16,
+        address_bytes: 1,
+        write_time: 5000,
+        has_srwd: false,
+    },
+    Device {
+        number: 2,
+        name: "M95128-D",
+        cells: 16_384,
+        page: 64,
+        address_bytes: 2,
+        write_time: 5000,
+        has_srwd: true,
+    },
+    Device {
+        number: 3,
+        name: "M95M01",
+        cells: 131_072,
+        page: 256,
+        address_bytes: 3,
+        write_time: 4000,
+        has_srwd: true,
+    },
+    Device {
+        number: 4,
+        name: "M95M02",
+        cells: 262_144,
+        page: 256,
+        address_bytes: 3,
+        write_time: 5000,
+        has_srwd: true,
+    },
+];
+
+/// The row of a device number, or none where the table has none.
+pub fn device(number: u8) -> Option<&'static Device> {
+    DEVICES.iter().find(|row| row.number == number)
+}
+
+impl Device {
+    /// The status bits that this device stores.
+    pub fn status_bits(&self) -> u8 {
+        if self.has_srwd {
+            SRWD | BP
+        } else {
+            BP
+        }
+    }
+
+    /// The address bit that makes an identification instruction a lock instruction ("Instructions", Address).
+    /// Device 1 has only eight address bits, so it uses another one.
+    pub fn lock_bit(&self) -> usize {
+        if self.number == 1 {
+            1 << 7
+        } else {
+            1 << 10
+        }
+    }
+
+    /// Whole bytes of a command before its data: the code and the address.
+    pub fn bytes_before_data(&self) -> u8 {
+        1 + self.address_bytes
+    }
+
+    /// Whether the page that holds `address` is protected by the block protection bits of `status`.
+    pub fn is_protected(&self, status: u8, address: usize) -> bool {
+        address >= self.first_protected(status)
+    }
+
+    /// The first protected cell; the number of cells where nothing is protected.
+    pub fn first_protected(&self, status: u8) -> usize {
+        match (status & BP) >> 2 {
+            0b00 => self.cells,
+            0b01 => self.cells - self.cells / 4,
+            0b10 => self.cells / 2,
+            _ => 0,
+        }
+    }
+}

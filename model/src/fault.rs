@@ -1,0 +1,219 @@
+//! Named ways to be wrong. `mistakes` makes them; `sharpness` uses them to show that the generated traces would notice
+//! each one.
+
+/// Declares the enum, the list of all faults and their meanings from one table.
+macro_rules! faults {
+    ($($name:ident = $meaning:literal,)*) => {
+        /// One named mistake; `None` makes none.
+        #[derive(Clone, Copy, Debug, PartialEq, Eq)]
+        pub enum Fault {
+            None,
+            $(#[doc = $meaning] $name,)*
+        }
+
+        impl Fault {
+            /// Every mistake, in the order of document 01's headings.
+            pub const ALL: &'static [Fault] = &[$(Fault::$name,)*];
+
+            /// Whether the mistake is the bench program's and not the library's.
+            pub fn is_of_bench(self) -> bool {
+                format!("{self:?}").starts_with("Bench")
+            }
+
+            /// What the mistaken model does.
+            pub fn meaning(self) -> &'static str {
+                match self {
+                    Fault::None => "the right model",
+                    $(Fault::$name => $meaning,)*
+                }
+            }
+        }
+    };
+}
+
+faults! {
+    // The device's state: preparing, and the count of whole bytes.
+    IdentificationCodeMissing = "device 4 is prepared with FFh in its whole identification page",
+    IdentificationCodeOnDevice3 = "device 3 is prepared with device 4's identification code",
+    NewStatusIsScratch = "every whole byte received goes to new status",
+    WholeBytesStopAtFive = "whole bytes stop counting at 5",
+    // Events: edges.
+    RedundantClockHighIsRise = "setting C high when it is high is a rise",
+    RedundantSelectLowIsFall = "setting S low when it is low is a fall",
+    LeastBitFirst = "the least significant bit comes first",
+    OutputMovesAtRise = "Q moves at the rise of C",
+    ByteTakenAtLastRise = "the byte to send is taken at the rise before its top bit",
+    ReceivedKeptAtSelectFall = "the bits of a cut byte stay for the next selection",
+    // Events: hold.
+    RiseDecodedWhileHeld = "a rise of C while held is decoded",
+    FallDecodedWhileHeld = "a fall of C while held is decoded, HOLD low",
+    FallEndingHoldDecoded = "the fall that ends hold is decoded",
+    FallStartingHoldNotDecoded = "the fall that starts hold is not decoded",
+    HoldStartsWithClockHigh = "HOLD lowered with C high holds at once",
+    HoldEndsWithClockHigh = "HOLD raised with C high ends hold at once",
+    HoldNeedsAnEdge = "S falling with HOLD low does not hold",
+    HoldAtSelectWithClockHigh = "S falling with HOLD low holds also with C high",
+    HoldShowsOutput = "Q is not Z while held",
+    HoldLosesOutput = "Q stays Z after hold until the next fall",
+    HeldCommandJudged = "a command deselected while held is judged",
+    HoldPinDropsCommand = "a command deselected with HOLD low is dropped, held or not",
+    HeldWithHoldHighJudged = "a command deselected while held with HOLD high is judged",
+    // Events: W.
+    ProtectSampledAtEnd = "W counts only at the rise of S",
+    ProtectSampledAtStart = "W counts only at the fall of S",
+    ProtectNotSeenInHold = "W low while held is not seen",
+    ProtectSeenKept = "W seen low stays for later selections",
+    // Events: time.
+    WriteTimeOneShort = "a cycle takes a microsecond less",
+    WriteTimeOneLong = "a cycle takes a microsecond more",
+    Device3WriteTimeAsOthers = "device 3 takes 5000 microseconds",
+    WaitPastEndWraps = "a wait longer than the time left does not end the cycle",
+    WaitWithoutCycleClearsWel = "a wait with no cycle clears WEL",
+    ZeroWaitIsOne = "a wait of 0 counts as one microsecond",
+    TimeStopsWhileHeld = "no time passes while held",
+    TimeStopsWhileSelected = "no time passes while selected",
+    CellsChangeAtSelectRise = "cells change when S rises",
+    IdentificationChangesAtSelectRise = "the identification page changes when S rises",
+    StatusChangesAtSelectRise = "status bits change when S rises",
+    LockChangesAtSelectRise = "the lock changes when S rises",
+    UnmarkedBytesWritten = "the whole latch is written, marked or not",
+    CycleEndKeepsWel = "WEL stays at the end of a cycle",
+    CycleEndClearsMarks = "the marks are cleared at the end of a cycle",
+    CycleEndDropsSelection = "the end of a cycle deselects",
+    // Events: power.
+    PowerKeepsWel = "power keeps WEL",
+    SelectedAfterPower = "S low is selected after power",
+    PowerKeepsSelection = "power keeps the selection as it was",
+    PowerJudgesCommand = "power while selected judges the command",
+    PowerClearsStatus = "power clears the status bits",
+    PowerUnlocks = "power unlocks",
+    PowerRaisesSelect = "power sets S high",
+    PowerTakenInArrayCycle = "power ends an array cycle",
+    PowerTakenInIdentificationCycle = "power ends an identification cycle",
+    PowerTakenInStatusCycle = "power ends a status cycle",
+    PowerTakenInLockCycle = "power ends a lock cycle",
+    // Instructions: codes.
+    Device1CodeBit3Counts = "bit 3 of the code is not ignored on device 1",
+    Device1Address8Ignored = "A8 is always 0 on device 1",
+    Device1IdentificationCodesLoose = "8Ah and 8Bh are 82h and 83h on device 1",
+    CodeBit3IgnoredEverywhere = "bit 3 of the code is ignored on all devices",
+    UnknownCodeSkipped = "the byte after an unknown code is taken as a code",
+    // Instructions: during a cycle.
+    RdsrTurnedAway = "RDSR is turned away in a cycle",
+    WrdiTurnedAway = "WRDI is turned away in a cycle",
+    WrenTakenInCycle = "WREN is taken in a cycle",
+    WrsrTakenInCycle = "WRSR is taken in a cycle",
+    ReadTakenInCycle = "READ is taken in a cycle",
+    WriteTakenInCycle = "WRITE is taken in a cycle",
+    RdidTakenInCycle = "83h is taken in a cycle",
+    WridTakenInCycle = "82h is taken in a cycle",
+    UnknownTakenInCycle = "an unknown code is not turned away in a cycle",
+    LatchReusedInCycle = "a WRITE turned away still fills the latch",
+    TurnedAwayJudgedAtSelectFall = "turning away is judged when S falls",
+    TurnedAwayJudgedAtFirstBit = "turning away is judged at the first bit of the code",
+    TurnedAwayEndsWithCycle = "a turned away command is taken again once the cycle ends",
+    WrdiStopsCycle = "WRDI ends a running cycle",
+    // Instructions: address.
+    AddressAboveArrayCounts = "an address above the array is not taken",
+    AddressMaskOneBitShort = "the top address bit of the array is ignored",
+    IdentificationHighBitsCount = "83h and 82h with other address bits set are not taken",
+    LockBitOneLower = "lock instructions have the address bit below set",
+    Device1LockBitIsTen = "device 1 has no lock instructions",
+    // Instructions: sending.
+    ReadStopsAtLastCell = "READ sends Z past the last cell",
+    ReadRollsInPage = "READ rolls round within its page",
+    ReadTurnsOneEarly = "READ goes to cell 0 before the last cell",
+    RdidTurnsRound = "RDID goes on at the start of its page",
+    RdidEndsOneEarly = "RDID ends before the last byte of its page",
+    RdlsSentOnce = "RDLS sends the lock once, then 00h",
+    RdlsInverted = "RDLS sends 00h if locked",
+    RdsrSentOnce = "RDSR sends the status once, then Z",
+    RdsrTakenOnce = "RDSR repeats the status it took first",
+    RdsrTakenEachBit = "RDSR takes the status afresh at every bit",
+    RdsrWithoutWip = "RDSR does not show WIP",
+    RdsrWithoutWel = "RDSR does not show WEL",
+    Device1UpperBitsOne = "RDSR sends ones in the upper four bits on device 1",
+    // Instructions: WREN and WRDI.
+    WrenTakesMoreBytes = "WREN is done with more than 8 rises, a multiple of eight",
+    WrenTakesMoreBits = "WREN is done with 9 to 15 rises",
+    WrenAtEighthRise = "WREN is done at its eighth rise",
+    WrenStoppedByProtect = "W low stops WREN on device 1",
+    ProtectClearsWel = "W low clears WEL on device 1",
+    WrdiTakesMoreBytes = "WRDI is done with more than 8 rises, a multiple of eight",
+    WrdiTakesMoreBits = "WRDI is done with 9 to 15 rises",
+    // Instructions: WRSR.
+    WrsrWithoutWel = "WRSR is done without WEL",
+    WrsrTakesMoreBytes = "WRSR is done with more than 16 rises, a multiple of eight",
+    WrsrTakesMoreBits = "WRSR is done with 17 to 23 rises",
+    WrsrTakesLess = "WRSR is done with 8 rises",
+    WrsrStoresOtherBits = "WRSR stores bits 4 to 6 too",
+    WrsrStoresSrwdOnDevice1 = "WRSR stores bit 7 on device 1",
+    WrsrIgnoresProtect = "W low never stops WRSR where SRWD exists",
+    WrsrIgnoresProtectOnDevice1 = "W low does not stop WRSR on device 1",
+    WrsrStoppedWithoutSrwd = "W low stops WRSR also with SRWD 0",
+    // Instructions: WRITE.
+    WriteWithoutWel = "WRITE is done without WEL",
+    WriteWithoutData = "WRITE is done without a data byte",
+    WriteTakesMoreBits = "WRITE is done with a cut byte at its end",
+    WriteIgnoresProtection = "WRITE is done in a protected page",
+    WriteIgnoresProtectOnDevice1 = "W low does not stop WRITE on device 1",
+    WriteStoppedByProtect = "W low stops WRITE on all devices",
+    PageRollsIntoNext = "a page write goes on in the next page",
+    PageRollsOneEarly = "a page write rolls round before the last byte of the page",
+    FirstByteForPlaceCounts = "the first byte for a place counts",
+    MarksNotCleared = "the code of WRITE or 82h leaves the marks",
+    MarksClearedOnlyWithWel = "the marks are cleared only with WEL set",
+    MarksClearedForWriteOnly = "82h leaves the marks",
+    LatchDataCleared = "the code of WRITE or 82h clears the latch data too",
+    LatchedOnlyWithWel = "data bytes are latched only with WEL set",
+    // Instructions: WRID.
+    WridWithoutWel = "WRID is done without WEL",
+    WridWithoutData = "WRID is done without a data byte",
+    WridTakesMoreBits = "WRID is done with a cut byte at its end",
+    WridIgnoresLock = "WRID is done when locked",
+    WridIgnoresProtection = "WRID is done with BP 11",
+    WridProtectedByAddress = "WRID is protected as the uppermost page of the array is",
+    WridIgnoresProtectOnDevice1 = "W low does not stop WRID on device 1",
+    // Instructions: LID.
+    LidWithoutWel = "LID is done without WEL",
+    LidWithoutData = "LID is done without a data byte",
+    LidTakesMoreBytes = "LID is done with more than one data byte",
+    LidTakesMoreBits = "LID is done with a cut byte at its end",
+    LidIgnoresBit1 = "LID is done whatever its data byte",
+    LidAsksBit0 = "LID asks for bit 0 of its data byte",
+    LidIgnoresLock = "LID is done when locked",
+    LidIgnoresProtection = "LID is done with BP 11",
+    LidIgnoresProtectOnDevice1 = "W low does not stop LID on device 1",
+    LidByteLatched = "LID's data byte is latched",
+    // Instructions: what a dropped write leaves, and protection.
+    DroppedWriteClearsWel = "a dropped write clears WEL",
+    DroppedWriteStartsCycle = "a write into a protected page starts a cycle that changes nothing",
+    ProtectionOnePageLess = "the first protected page can be written",
+    ProtectionOnePageMore = "the last unprotected page cannot be written",
+    ProtectionBitsSwapped = "BP 01 protects the upper half and 10 the upper quarter",
+    ProtectionFromBottom = "BP 01 and 10 protect the lower part",
+    // Traces and numbers.
+    TailIsEnd = "one to three bytes left end the trace with 0",
+    BodyJudgedBeforeKind = "6 for the body comes before 7",
+    BodyJudgedBeforeLength = "6 for the body comes before 8",
+    LengthJudgedBeforeKind = "8 comes before 7 for a length that no kind has",
+    LengthHighByteIgnored = "the length is one byte",
+    KindHighByteIgnored = "the kind is one byte",
+    PinTenTaken = "pin bytes 10 and 11 are taken",
+    RoomJudgedBeforePin = "10 comes before 9",
+    PowerJudgedBeforeRoom = "11 comes before 10",
+    RefusalWritesAnswer = "a refused record writes an answer",
+    LookPastLimit = "the record after the limit is looked at",
+    DeviceRecordTakenInTrace = "a record of kind 16 is taken in a trace",
+    // Bench program.
+    BenchStatusIsStored = "the bench program ends with the stored status bits",
+    BenchRefusalIsBare = "the bench program prints only the end of a refused trace",
+    BenchHeaderNeedsRecord = "the bench program prints no header without a record done",
+    BenchLimitOneLess = "the bench program refuses 32,768 bytes",
+    BenchLimitCountsTrace = "the bench program does not count the first record in its limit",
+    BenchLimitJudgedLast = "the bench program judges its first record before 12",
+    BenchLengthBeforeKind = "the bench program judges the first record's length before its kind",
+    BenchBodyBeforeKind = "the bench program judges the first record's body before its kind",
+    BenchTakesLargeDevices = "the bench program runs devices 3 and 4",
+    BenchTakesNoInput = "the bench program takes no input for a whole one",
+}

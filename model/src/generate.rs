@@ -1,0 +1,121 @@
+//! Seeded traces for comparing models, by named profiles: the same profile, device, seed and length give the same
+//! trace.
+//!
+//! A profile repeats steps. Most steps bring the pins to rest, set up what a command needs (status bits, WEL, a
+//! running cycle), disturb that one command at one moment, and look at what came of it, so that traces get past the
+//! first bits of a selection.
+
+mod commands;
+mod disturb;
+mod inputs;
+mod malformed;
+mod random;
+mod steps;
+
+use crate::device::Device;
+use crate::trace::{append_record, Event};
+use commands::Maker;
+pub use inputs::{bench_input, odd_bench_input, ODD_BENCH_INPUTS};
+pub use malformed::{tail, TAILS};
+pub use random::Random;
+
+/// What a trace is about.
+#[derive(Clone, Copy, Debug, PartialEq, Eq)]
+pub enum Profile {
+    /// Whole commands of every instruction at boundary addresses and lengths.
+    Commands,
+    /// Commands of every wrong length, in bytes and in bits.
+    Lengths,
+    /// W low and high at every moment of a selection.
+    Protect,
+    /// Extra, missing and repeated edges.
+    Glitch,
+    /// HOLD at every moment of a selection.
+    Hold,
+    /// Cycles that end at every moment of a selection.
+    Waits,
+    /// Power at every moment of a selection.
+    Power,
+    /// Random pins after a meaningful start.
+    Noise,
+    /// Steps of all the profiles above.
+    Mixed,
+    /// A mixed trace with a record at its end that is refused.
+    Malformed,
+}
+
+impl Profile {
+    pub const ALL: [Profile; 10] = [
+        Profile::Commands,
+        Profile::Lengths,
+        Profile::Protect,
+        Profile::Glitch,
+        Profile::Hold,
+        Profile::Waits,
+        Profile::Power,
+        Profile::Noise,
+        Profile::Mixed,
+        Profile::Malformed,
+    ];
+
+    pub fn name(self) -> &'static str {
+        match self {
+            Profile::Commands => "commands",
+            Profile::Lengths => "lengths",
+            Profile::Protect => "protect",
+            Profile::Glitch => "glitch",
+            Profile::Hold => "hold",
+            Profile::Waits => "waits",
+            Profile::Power => "power",
+            Profile::Noise => "noise",
+            Profile::Mixed => "mixed",
+            Profile::Malformed => "malformed",
+        }
+    }
+
+    pub fn named(name: &str) -> Option<Profile> {
+        Profile::ALL
+            .into_iter()
+            .find(|profile| profile.name() == name)
+    }
+}
+
+/// The events of a trace of at least `records` events; none of them is refused on a chip that is in no cycle.
+pub fn events(profile: Profile, device: &'static Device, seed: u64, records: usize) -> Vec<Event> {
+    let mut maker = Maker::new(device, seed, records);
+    while !maker.is_full() {
+        maker.step(profile);
+    }
+    maker.leave_open();
+    maker.events
+}
+
+/// The records of `events`; for `Malformed` with the tail that the seed picks.
+pub fn trace(profile: Profile, device: &'static Device, seed: u64, records: usize) -> Vec<u8> {
+    let which = Random::new(seed).below(TAILS);
+    trace_with_tail(profile, device, seed, records, which)
+}
+
+/// `trace`, for `Malformed` with the tail number `which`.
+pub fn trace_with_tail(
+    profile: Profile,
+    device: &'static Device,
+    seed: u64,
+    records: usize,
+    which: usize,
+) -> Vec<u8> {
+    let mut bytes = records_of(&events(profile, device, seed, records));
+    if profile == Profile::Malformed {
+        bytes.extend_from_slice(&tail(device, which));
+    }
+    bytes
+}
+
+/// The records of a list of events.
+pub fn records_of(events: &[Event]) -> Vec<u8> {
+    let mut bytes = Vec::new();
+    for &event in events {
+        append_record(&mut bytes, event);
+    }
+    bytes
+}

@@ -1,0 +1,30 @@
+//! A plain model of four M95 serial memories as seen from their pins.
+//!
+//! It is written from document 01 and the settled readings alone, so that it can stand beside another
+//! implementation and be compared with it by running. Names are those of document 01; comments point to it by
+//! heading.
+
+mod bench;
+mod calls;
+pub mod compare;
+mod contents;
+mod device;
+mod fault;
+mod files;
+pub mod generate;
+mod mistakes;
+mod number;
+mod rules;
+mod state;
+mod trace;
+
+pub use bench::{bench, BENCH_CELLS, BENCH_INPUT};
+pub use calls::{cell_page, event, identification_page, prepare, run, Ran};
+pub use contents::{play, play_wrongly, Contents, Played};
+pub use device::{device, Device, BP, DEVICES, SRWD};
+pub use fault::Fault;
+pub use files::play_files;
+pub use mistakes::bench_wrongly;
+pub use number::Number;
+pub use state::{is_sound, status_byte, Cycle, Instruction, Output, State, MOST_WHOLE_BYTES};
+pub use trace::{append_record, Event};

@@ -1,0 +1,159 @@
+//! The model made wrong in one named way.
+//!
+//! The rules know nothing of this. A mistaken device is the right one, with the state changed before an event so that
+//! the right rules do the wrong thing, or changed after it. `Fault::None` runs the right model itself.
+
+mod bench;
+mod codes;
+mod edges;
+mod judging;
+mod records;
+mod sending;
+
+use crate::calls::{lend, run, Ran, IDENTIFICATION_CODE};
+use crate::device::Device;
+use crate::fault::Fault;
+use crate::rules::Chip;
+use crate::state::{Cycle, Output, State};
+use crate::trace::Event;
+pub use bench::bench_wrongly;
+
+/// The mistakes of preparing: what the identification page starts with.
+pub(crate) fn prepared(fault: Fault, device: &Device, identification: &mut [u8]) {
+    let start = match (fault, device.number) {
+        (Fault::IdentificationCodeMissing, 4) => [0xFF; 3],
+        (Fault::IdentificationCodeOnDevice3, 3) => IDENTIFICATION_CODE,
+        _ => return,
+    };
+    identification[..start.len()].copy_from_slice(&start);
+}
+
+/// `run`, with a mistake.
+#[allow(clippy::too_many_arguments)] // as `run`
+pub(crate) fn run_wrongly(
+    fault: Fault,
+    device: u8,
+    state: &mut State,
+    cells: &mut [u8],
+    identification: &mut [u8],
+    latch: &mut [u8],
+    trace: &[u8],
+    answers: &mut [u8],
+    limit: usize,
+) -> Ran {
+    if fault == Fault::None {
+        return run(
+            device,
+            state,
+            cells,
+            identification,
+            latch,
+            trace,
+            answers,
+            limit,
+        );
+    }
+    match lend(device, state, cells, identification, latch) {
+        Ok(chip) => Mistaken::new(fault, chip).run(trace, answers, limit),
+        Err(number) => Ran {
+            number,
+            done: 0,
+            taken: 0,
+        },
+    }
+}
+
+/// A device with a mistake.
+struct Mistaken<'a> {
+    fault: Fault,
+    chip: Chip<'a>,
+    /// Whether a cycle ran when a mistaken reading judged the code, before the code was there.
+    cycle_before_code: bool,
+    /// The latch before the event, where a mistake puts it back.
+    data_before: Vec<u8>,
+    marks_before: Vec<u8>,
+}
+
+/// What an event is for the selection.
+#[derive(Clone, Copy, PartialEq, Eq)]
+enum Moment {
+    /// Decoded edges of C.
+    Rise,
+    Fall,
+    SelectFall,
+    /// While selected.
+    SelectRise,
+    Other,
+}
+
+fn moment(state: &State, event: Event) -> Moment {
+    let decodes = state.selected && !state.held;
+    match event {
+        Event::Clock(true) if !state.clock && decodes => Moment::Rise,
+        Event::Clock(false) if state.clock && decodes => Moment::Fall,
+        Event::Select(false) if state.select => Moment::SelectFall,
+        Event::Select(true) if !state.select && state.selected => Moment::SelectRise,
+        _ => Moment::Other,
+    }
+}
+
+impl<'a> Mistaken<'a> {
+    fn new(fault: Fault, chip: Chip<'a>) -> Mistaken<'a> {
+        Mistaken {
+            fault,
+            chip,
+            cycle_before_code: false,
+            data_before: Vec::new(),
+            marks_before: Vec::new(),
+        }
+    }
+
+    fn event(&mut self, event: Event) -> Output {
+        if self.judges_at_power(event) {
+            self.chip.select_rises();
+            return Output::Z;
+        }
+        let first = self.chip.state.clone();
+        let event = self.before_edge(event);
+        let was = self.chip.state.clone();
+        let moment = moment(&was, event);
+        match moment {
+            Moment::Rise => self.before_rise(),
+            Moment::Fall => self.before_fall(),
+            Moment::SelectRise => self.before_select_rise(),
+            Moment::SelectFall | Moment::Other => self.before_other(event),
+        }
+        self.chip.event(event);
+        match moment {
+            Moment::Rise => self.after_rise(&was),
+            Moment::Fall => self.after_fall(&was),
+            Moment::SelectRise => self.after_select_rise(&was),
+            Moment::SelectFall => self.after_select_fall(&was),
+            Moment::Other => self.after_other(event, &was),
+        }
+        self.after_any(event, &first);
+        match self.fault {
+            Fault::HoldShowsOutput => self.chip.state.output,
+            _ => self.chip.state.answer(),
+        }
+    }
+
+    fn judges_at_power(&self, event: Event) -> bool {
+        self.fault == Fault::PowerJudgesCommand && event == Event::Power && self.chip.state.selected
+    }
+
+    /// A mistaken device may end its cycle at power instead of refusing it.
+    fn end_cycle_at_power(&mut self) {
+        let ends_here = match self.chip.state.cycle {
+            Cycle::None => return,
+            Cycle::Array => Fault::PowerTakenInArrayCycle,
+            Cycle::Identification => Fault::PowerTakenInIdentificationCycle,
+            Cycle::Status => Fault::PowerTakenInStatusCycle,
+            Cycle::Lock => Fault::PowerTakenInLockCycle,
+        };
+        if self.fault == ends_here {
+            self.chip.state.cycle = Cycle::None;
+            self.chip.state.time_left = 0;
+        }
+    }
+}

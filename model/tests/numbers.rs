@@ -1,0 +1,322 @@
+//! The numbers given back: each with what it leaves, and their order (document 01, "Numbers given back").
+
+mod common;
+
+use common::Board;
+use m95::{
+    append_record, cell_page, event, identification_page, prepare, run, Event, Number, Output, Ran,
+    State,
+};
+
+fn records(events: &[Event]) -> Vec<u8> {
+    let mut trace = Vec::new();
+    for &event in events {
+        append_record(&mut trace, event);
+    }
+    trace
+}
+
+fn run_on(board: &mut Board, trace: &[u8], answers: &mut [u8], limit: usize) -> Ran {
+    run(
+        board.device.number,
+        &mut board.state,
+        &mut board.cells,
+        &mut board.identification,
+        &mut board.latch,
+        trace,
+        answers,
+        limit,
+    )
+}
+
+fn ran(number: Number, done: usize, taken: usize) -> Ran {
+    Ran {
+        number,
+        done,
+        taken,
+    }
+}
+
+/// A copy of everything that a refused call must leave.
+fn whole(board: &Board) -> (State, Vec<u8>, Vec<u8>, Vec<u8>) {
+    (
+        board.state.clone(),
+        board.cells.clone(),
+        board.identification.clone(),
+        board.latch.clone(),
+    )
+}
+
+#[test]
+fn preparing() {
+    for (number, cells, page) in [
+        (1, 512, 16),
+        (2, 16_384, 64),
+        (3, 131_072, 256),
+        (4, 262_144, 256),
+    ] {
+        let (mut array, mut identification, mut latch) =
+            (vec![1; cells], vec![2; page], vec![3; 2 * page]);
+        let (done, state) = prepare(number, &mut array, &mut identification, &mut latch);
+        assert_eq!(done, Number::Done);
+        assert!(array.iter().all(|&cell| cell == 0xFF));
+        assert!(latch.iter().all(|&byte| byte == 0));
+        let start = if number == 4 {
+            [0x20, 0x00, 0x12]
+        } else {
+            [0xFF; 3]
+        };
+        assert_eq!(identification[..3], start);
+        assert!(identification[3..].iter().all(|&byte| byte == 0xFF));
+        assert!(state.select && state.hold && state.protect && !state.clock && !state.data);
+        assert!(!state.selected && !state.locked && !state.write_enable_latch && !state.in_cycle());
+        assert_eq!(state.status, 0);
+    }
+}
+
+#[test]
+fn refused_preparing_changes_nothing() {
+    // Everything is wrong at first; then one thing after another is made right.
+    for (number, cells, page, latch, expected) in [
+        (0, 511, 15, 33, Number::Device),
+        (5, 511, 15, 33, Number::Device),
+        (1, 511, 15, 33, Number::Cells),
+        (1, 16_384, 15, 33, Number::Cells),
+        (1, 512, 15, 33, Number::Identification),
+        (1, 512, 16, 33, Number::Latch),
+        (1, 512, 16, 16, Number::Latch),
+    ] {
+        let (mut array, mut identification, mut lent) =
+            (vec![1; cells], vec![2; page], vec![3; latch]);
+        let (got, state) = prepare(number, &mut array, &mut identification, &mut lent);
+        assert_eq!(got, expected);
+        assert_eq!(state, State::prepared());
+        assert!(array.iter().all(|&byte| byte == 1));
+        assert!(identification.iter().all(|&byte| byte == 2));
+        assert!(lent.iter().all(|&byte| byte == 3));
+    }
+}
+
+#[test]
+fn events_and_traces_give_1_to_5_in_order() {
+    let sound = State::prepared();
+    let unsound = State {
+        address: 512,
+        ..State::prepared()
+    };
+    for (number, state, cells, page, latch, expected) in [
+        (9, &unsound, 511, 15, 33, Number::Device),
+        (1, &unsound, 511, 15, 33, Number::Cells),
+        (1, &unsound, 512, 15, 33, Number::Identification),
+        (1, &unsound, 512, 16, 33, Number::Latch),
+        (1, &unsound, 512, 16, 32, Number::State),
+        (1, &sound, 512, 16, 32, Number::State), // a mark of 3
+    ] {
+        let (mut array, mut identification, mut lent) =
+            (vec![1; cells], vec![2; page], vec![3; latch]);
+        let mut after = state.clone();
+        let given = event(
+            number,
+            &mut after,
+            &mut array,
+            &mut identification,
+            &mut lent,
+            Event::Power,
+        );
+        assert_eq!(given, (expected, Output::Z));
+        let mut answers = [7; 2];
+        let trace = records(&[Event::Power]);
+        for limit in [0, 1] {
+            let given = run(
+                number,
+                &mut after,
+                &mut array,
+                &mut identification,
+                &mut lent,
+                &trace,
+                &mut answers,
+                limit,
+            );
+            assert_eq!(given, ran(expected, 0, 0), "before the limit {limit}");
+        }
+        assert_eq!(answers, [7; 2]);
+        assert_eq!(&after, state);
+        assert!(array.iter().all(|&byte| byte == 1));
+        assert!(lent.iter().all(|&byte| byte == 3));
+    }
+}
+
+#[test]
+fn marks_count_and_latch_data_does_not() {
+    let mut board = Board::new(1);
+    board.latch[..16].fill(0xEE);
+    board.latch[16..].fill(1);
+    assert_eq!(board.try_set(Event::Wait(0)).0, Number::Done);
+    board.latch[31] = 2;
+    assert_eq!(board.try_set(Event::Wait(0)).0, Number::State);
+}
+
+/// A good record, then the bytes, then what refuses them; the answers after the first stay.
+fn refused(bytes: &[u8]) -> Number {
+    let mut board = Board::new(1);
+    let mut trace = records(&[Event::Select(false)]);
+    trace.extend_from_slice(bytes);
+    let mut expected = Board::new(1);
+    expected.set(Event::Select(false));
+    let mut answers = [7; 4];
+    let given = run_on(&mut board, &trace, &mut answers, 10);
+    assert_eq!((given.done, given.taken), (1, 5));
+    assert_eq!(answers, [2, 7, 7, 7]);
+    assert_eq!(whole(&board), whole(&expected));
+    given.number
+}
+
+#[test]
+fn number_6_for_the_head() {
+    for head in [&[3][..], &[3, 0], &[3, 0, 1], &[0, 0, 99], &[255, 255, 255]] {
+        assert_eq!(refused(head), Number::Cut);
+    }
+}
+
+#[test]
+fn number_7_before_8_and_the_body() {
+    for kind in [0, 4, 5, 16, 255] {
+        assert_eq!(refused(&[3, 0, kind, 0, 0]), Number::Kind);
+        assert_eq!(refused(&[99, 0, kind, 0]), Number::Kind);
+    }
+    for kind in [1, 2, 3] {
+        assert_eq!(refused(&[3, 0, kind, 1, 0]), Number::Kind);
+    }
+}
+
+#[test]
+fn number_8_before_the_body() {
+    for (kind, right) in [(1, 3), (2, 6), (3, 2)] {
+        for length in [0, 1, 2, 3, 4, 5, 6, 7, 255] {
+            if length != right {
+                assert_eq!(refused(&[length, 0, kind, 0]), Number::Length);
+                assert_eq!(
+                    refused(&[length, 0, kind, 0, 0, 0, 0, 0, 0, 0]),
+                    Number::Length
+                );
+            }
+        }
+        assert_eq!(refused(&[right, 1, kind, 0, 0, 0, 0, 0]), Number::Length);
+    }
+}
+
+#[test]
+fn number_6_for_the_body() {
+    assert_eq!(refused(&[3, 0, 1, 0]), Number::Cut);
+    for left in 0..4 {
+        assert_eq!(refused(&[6, 0, 2, 0, 1, 1, 1, 1][..4 + left]), Number::Cut);
+    }
+}
+
+#[test]
+fn number_9_above_pin_byte_9() {
+    for pin in 10..=255 {
+        assert_eq!(refused(&[3, 0, 1, 0, pin]), Number::Pin);
+    }
+    let mut board = Board::new(1);
+    let trace: Vec<u8> = (0..=9).flat_map(|pin| [3, 0, 1, 0, pin]).collect();
+    let mut answers = [7; 10];
+    assert_eq!(
+        run_on(&mut board, &trace, &mut answers, 10),
+        ran(Number::Done, 10, 50)
+    );
+    let state = &board.state;
+    assert!(state.clock && state.data && state.select && state.hold && state.protect);
+}
+
+#[test]
+fn number_10_after_9_and_before_11() {
+    let mut board = Board::new(1);
+    board.start_write(&[0x02, 0x00, 0x11]);
+    let before = whole(&board);
+    assert_eq!(
+        run_on(&mut board, &[3, 0, 1, 0, 10], &mut [], 1),
+        ran(Number::Pin, 0, 0)
+    );
+    assert_eq!(
+        run_on(&mut board, &[2, 0, 3, 0], &mut [], 1),
+        ran(Number::Answers, 0, 0)
+    );
+    assert_eq!(
+        run_on(&mut board, &[2, 0, 3, 0], &mut [7], 1),
+        ran(Number::Power, 0, 0)
+    );
+    assert_eq!(
+        run_on(&mut board, &[3, 0, 1, 0, 4], &mut [], 1),
+        ran(Number::Answers, 0, 0)
+    );
+    assert_eq!(whole(&board), before);
+}
+
+#[test]
+fn number_11_in_every_cycle() {
+    for bytes in [
+        &[0x02, 0x00, 0x11][..], // array
+        &[0x82, 0x00, 0x11],     // identification
+        &[0x01, 0x0C],           // status
+        &[0x82, 0x80, 0x02],     // lock
+    ] {
+        let mut board = Board::new(1);
+        board.start_write(bytes);
+        board.wait(4999);
+        let before = whole(&board);
+        assert_eq!(board.try_set(Event::Power), (Number::Power, Output::Z));
+        assert_eq!(whole(&board), before);
+        board.wait(1);
+        board.set(Event::Power);
+        assert_eq!(board.status() & 0x03, 0x00);
+    }
+}
+
+#[test]
+fn number_0_at_the_limit_or_the_end() {
+    let mut board = Board::new(2);
+    let mut answers = [7; 3];
+    assert_eq!(
+        run_on(&mut board, &[], &mut answers, 5),
+        ran(Number::Done, 0, 0)
+    );
+    // At the limit nothing more is looked at, not even a record that would be refused.
+    assert_eq!(
+        run_on(&mut board, &[1], &mut answers, 0),
+        ran(Number::Done, 0, 0)
+    );
+    let mut trace = records(&[Event::Wait(1), Event::Power]);
+    trace.push(99);
+    assert_eq!(
+        run_on(&mut board, &trace, &mut answers, 2),
+        ran(Number::Done, 2, 12)
+    );
+    assert_eq!(answers, [2, 2, 7]);
+    assert_eq!(
+        run_on(&mut board, &trace, &mut answers, 3),
+        ran(Number::Cut, 2, 12)
+    );
+}
+
+#[test]
+fn pages_are_shown() {
+    let cells: Vec<u8> = (0..512usize).map(|index| (index / 2) as u8).collect();
+    assert_eq!(cell_page(1, &cells, 0), (Number::Done, &cells[..16]));
+    assert_eq!(cell_page(1, &cells, 15), (Number::Done, &cells[..16]));
+    assert_eq!(cell_page(1, &cells, 16), (Number::Done, &cells[16..32]));
+    assert_eq!(cell_page(1, &cells, 511), (Number::Done, &cells[496..]));
+    let none: &[u8] = &[];
+    assert_eq!(cell_page(1, &cells, 512), (Number::Address, none));
+    assert_eq!(cell_page(1, &cells[1..], 512), (Number::Cells, none));
+    assert_eq!(cell_page(0, &cells[1..], 512), (Number::Device, none));
+    assert_eq!(
+        identification_page(1, &cells[..16]),
+        (Number::Done, &cells[..16])
+    );
+    assert_eq!(
+        identification_page(1, &cells[..15]),
+        (Number::Identification, none)
+    );
+    assert_eq!(identification_page(7, &cells[..15]), (Number::Device, none));
+}

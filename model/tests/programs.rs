@@ -1,0 +1,251 @@
+//! The two programs of the model, run as processes: the bench program of document 01 and `play`.
+
+use std::fs;
+use std::io::Write;
+use std::path::{Path, PathBuf};
+use std::process::{Command, Output, Stdio};
+
+use m95::{append_record, Event};
+
+fn bench(input: &[u8]) -> String {
+    let mut child = Command::new(env!("CARGO_BIN_EXE_bench"))
+        .stdin(Stdio::piped())
+        .stdout(Stdio::piped())
+        .spawn()
+        .expect("bench starts");
+    let mut pipe = child.stdin.take().expect("a pipe");
+    // A program that has seen enough may close its end early, as bench does with an input that is too long.
+    let _ = pipe.write_all(input);
+    drop(pipe);
+    let output = child.wait_with_output().expect("bench ends");
+    assert!(output.status.success());
+    String::from_utf8(output.stdout).expect("text")
+}
+
+const DEVICE_1: [u8; 5] = [3, 0, 16, 0, 1];
+const DEVICE_2: [u8; 5] = [3, 0, 16, 0, 2];
+
+fn with_trace(first: [u8; 5], trace: &[u8]) -> Vec<u8> {
+    [&first[..], trace].concat()
+}
+
+#[test]
+fn printed_example() {
+    let input = [
+        0x03, 0x00, 0x10, 0x00, 0x01, 0x03, 0x00, 0x01, 0x00, 0x04, 0x03, 0x00, 0x01, 0x00, 0x05,
+    ];
+    assert_eq!(bench(&input), "record q\n1 Z\n2 Z\nend 0 00\n");
+}
+
+#[test]
+fn first_record_is_judged_by_6_7_8_6_1_after_12() {
+    assert_eq!(bench(&[]), "end 6 --\n");
+    assert_eq!(bench(&[3, 0, 16]), "end 6 --\n");
+    assert_eq!(bench(&[3, 0, 17, 0]), "end 7 --\n");
+    assert_eq!(bench(&[9, 0, 1, 0]), "end 7 --\n");
+    assert_eq!(bench(&[2, 0, 16, 0]), "end 8 --\n");
+    assert_eq!(bench(&[3, 1, 16, 0]), "end 8 --\n");
+    assert_eq!(bench(&[3, 0, 16, 0]), "end 6 --\n");
+    for device in [0, 3, 4, 255] {
+        assert_eq!(bench(&[3, 0, 16, 0, device]), "end 1 --\n");
+    }
+    let long = vec![0; 32_769];
+    assert_eq!(bench(&long), "end 12 --\n");
+}
+
+#[test]
+fn longest_input_runs() {
+    // 5 bytes of first record, 8 of a wait and 6551 pin records of 5 bytes make 32,768 in all.
+    let mut trace = Vec::new();
+    append_record(&mut trace, Event::Wait(1));
+    for _ in 0..6551 {
+        append_record(&mut trace, Event::Data(false));
+    }
+    let mut input = with_trace(DEVICE_2, &trace);
+    assert_eq!(input.len(), 32_768);
+    let text = bench(&input);
+    assert!(text.starts_with("record q\n1 Z\n2 Z\n"));
+    assert!(text.ends_with("\n6552 Z\nend 0 00\n"));
+    input.push(0);
+    assert_eq!(bench(&input), "end 12 --\n");
+}
+
+#[test]
+fn refused_trace_keeps_header_and_status() {
+    assert_eq!(bench(&DEVICE_1), "record q\nend 0 00\n");
+    assert_eq!(bench(&with_trace(DEVICE_1, &[3])), "record q\nend 6 00\n");
+    assert_eq!(
+        bench(&with_trace(DEVICE_1, &DEVICE_1)),
+        "record q\nend 7 00\n"
+    );
+    let mut trace = Vec::new();
+    for event in selection(&[0x06]) {
+        append_record(&mut trace, event);
+    }
+    let done = trace.len() / 5;
+    trace.extend_from_slice(&[3, 0, 1, 0, 10]);
+    let text = bench(&with_trace(DEVICE_1, &trace));
+    assert!(text.ends_with(&format!("\n{done} Z\nend 9 02\n")), "{text}");
+}
+
+/// The events of one selection with C idle low.
+fn selection(bytes: &[u8]) -> Vec<Event> {
+    let mut events = vec![Event::Select(false)];
+    for place in 0..8 * bytes.len() {
+        let level = bytes[place / 8] << (place % 8) & 0x80 != 0;
+        events.extend([Event::Data(level), Event::Clock(true), Event::Clock(false)]);
+    }
+    events.push(Event::Select(true));
+    events
+}
+
+/// A directory of its own for one test.
+struct Place(PathBuf);
+
+impl Place {
+    fn new(name: &str) -> Place {
+        let path = Path::new(env!("CARGO_TARGET_TMPDIR")).join(name);
+        let _ = fs::remove_dir_all(&path);
+        fs::create_dir_all(&path).expect("a directory");
+        Place(path)
+    }
+
+    fn path(&self, name: &str) -> PathBuf {
+        self.0.join(name)
+    }
+
+    fn put(&self, name: &str, bytes: &[u8]) {
+        fs::write(self.path(name), bytes).expect("a file");
+    }
+
+    fn get(&self, name: &str) -> Vec<u8> {
+        fs::read(self.path(name)).expect("a file")
+    }
+
+    fn play(&self, device: &str) -> Output {
+        Command::new(env!("CARGO_BIN_EXE_play"))
+            .arg(device)
+            .args([self.path("chip"), self.path("trace"), self.path("answers")])
+            .output()
+            .expect("play starts")
+    }
+
+    fn put_trace(&self, events: &[Event]) -> usize {
+        let mut trace = Vec::new();
+        for &event in events {
+            append_record(&mut trace, event);
+        }
+        self.put("trace", &trace);
+        trace.len()
+    }
+}
+
+fn line(output: &Output) -> &str {
+    assert!(output.status.success());
+    std::str::from_utf8(&output.stdout).expect("text")
+}
+
+#[test]
+fn play_makes_a_missing_chip_and_goes_on_with_it() {
+    let place = Place::new("goes_on");
+    let write = [selection(&[0x06]), selection(&[0x02, 0x1F, 0xA5])].concat();
+    let bytes = place.put_trace(&write);
+    let output = place.play("1");
+    let expected = format!("end 0 03 records {} bytes {bytes}\n", write.len());
+    assert_eq!(line(&output), expected);
+    let mut chip = vec![0xFF; 512 + 16];
+    chip.extend_from_slice(&[0, 0]);
+    assert_eq!(place.get("chip"), chip, "the cycle was lost");
+    assert_eq!(place.get("answers"), vec![2; write.len()]);
+
+    let whole = [write, vec![Event::Wait(5000)]].concat();
+    place.put_trace(&whole);
+    assert!(line(&place.play("1")).starts_with("end 0 00 "));
+    chip[0x1F] = 0xA5;
+    assert_eq!(place.get("chip"), chip);
+}
+
+#[test]
+fn play_takes_a_raw_image_and_stores_the_long_form() {
+    let place = Place::new("raw");
+    let mut chip: Vec<u8> = (0..16_384usize).map(|index| (index % 251) as u8).collect();
+    place.put("chip", &chip);
+    let status = [
+        selection(&[0x06]),
+        selection(&[0x01, 0x8C]),
+        vec![Event::Wait(5000), Event::Power],
+    ];
+    place.put_trace(&status.concat());
+    assert!(line(&place.play("2")).starts_with("end 0 8C "));
+    chip.extend_from_slice(&[0xFF; 64]);
+    chip.extend_from_slice(&[0x8C, 0]);
+    assert_eq!(place.get("chip"), chip);
+}
+
+#[test]
+fn play_reads_status_and_lock_and_stops_at_a_refusal() {
+    let place = Place::new("status");
+    let mut chip = vec![0x33; 512 + 16];
+    chip.extend_from_slice(&[0x0C, 1]);
+    place.put("chip", &chip);
+    // RDSR and the first output bit, then a record that is cut.
+    let mut events = selection(&[0x05]);
+    events.pop();
+    let bytes = place.put_trace(&events);
+    let mut trace = place.get("trace");
+    trace.extend_from_slice(&[3, 0]);
+    place.put("trace", &trace);
+    let output = place.play("1");
+    let expected = format!("end 6 0C records {} bytes {bytes}\n", events.len());
+    assert_eq!(line(&output), expected);
+    let mut answers = vec![2; events.len()];
+    answers[events.len() - 1] = 0;
+    assert_eq!(place.get("answers"), answers);
+    assert_eq!(place.get("chip"), chip);
+}
+
+#[test]
+fn bad_use_changes_no_file() {
+    let place = Place::new("bad_use");
+    place.put("answers", b"as it was");
+    let long = 512 + 16 + 2;
+    let mut wrong_status = vec![0; long];
+    wrong_status[long - 2] = 0x80;
+    let mut wrong_lock = vec![0; long];
+    wrong_lock[long - 1] = 2;
+    place.put_trace(&[Event::Power]);
+    for (device, chip) in [
+        ("0", vec![0; long]),
+        ("5", vec![0; long]),
+        ("01", vec![0; long]),
+        ("1", vec![0; long - 1]),
+        ("1", vec![0; 513]),
+        ("2", vec![0; 512]),
+        ("1", wrong_status),
+        ("1", wrong_lock),
+    ] {
+        place.put("chip", &chip);
+        let output = place.play(device);
+        assert_refused(&place, &output, &chip);
+    }
+    fs::remove_file(place.path("trace")).expect("the trace");
+    let chip = vec![0; long];
+    place.put("chip", &chip);
+    assert_refused(&place, &place.play("1"), &chip);
+    let output = Command::new(env!("CARGO_BIN_EXE_play"))
+        .args(["1", "only"])
+        .output()
+        .expect("play starts");
+    assert_eq!(output.status.code(), Some(2));
+}
+
+fn assert_refused(place: &Place, output: &Output, chip: &[u8]) {
+    assert_eq!(output.status.code(), Some(2));
+    assert!(output.stdout.is_empty());
+    assert_eq!(
+        output.stderr.iter().filter(|&&byte| byte == b'\n').count(),
+        1
+    );
+    assert_eq!(place.get("chip"), chip);
+    assert_eq!(place.get("answers"), b"as it was");
+}
