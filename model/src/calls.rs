@@ -20,6 +20,17 @@ pub struct Ran {
     pub taken: usize,
 }
 
+impl Ran {
+    /// Refused before the first record.
+    pub(crate) fn refused(number: Number) -> Ran {
+        Ran {
+            number,
+            done: 0,
+            taken: 0,
+        }
+    }
+}
+
 /// Prepares a device. The latch may hold anything before; it is overwritten.
 pub fn prepare(
     device: u8,
@@ -73,16 +84,12 @@ pub fn run(
 ) -> Ran {
     match lend(device, state, cells, identification, latch) {
         Ok(mut chip) => run_records(&mut chip, trace, answers, limit),
-        Err(number) => Ran {
-            number,
-            done: 0,
-            taken: 0,
-        },
+        Err(number) => Ran::refused(number),
     }
 }
 
 /// The loop over the records. At the limit nothing more is looked at; a refused record has done nothing.
-fn run_records(chip: &mut Chip, trace: &[u8], answers: &mut [u8], limit: usize) -> Ran {
+pub(crate) fn run_records(chip: &mut Chip, trace: &[u8], answers: &mut [u8], limit: usize) -> Ran {
     let (mut done, mut taken) = (0, 0);
     while done < limit && taken < trace.len() {
         match judge_record(chip, &trace[taken..], done < answers.len()) {

@@ -1,7 +1,7 @@
 //! What a chip keeps without its board: the contents that `play` reads from and writes to a file, and one run of a
 //! trace over them.
 
-use crate::calls::{prepare, run, Ran};
+use crate::calls::{lend, prepare, Ran};
 use crate::device::Device;
 use crate::fault::Fault;
 use crate::generate::Random;
@@ -124,23 +124,10 @@ impl Played {
     }
 }
 
-/// Runs a whole trace over a chip's contents. A cycle that still runs at the end is lost, its change has not come.
+/// Runs a whole trace over a chip's contents, at rest. A cycle that still runs at the end is lost, its change has not
+/// come.
 pub fn play(device: &Device, contents: &mut Contents, trace: &[u8]) -> Played {
-    let room = most_records(trace);
-    play_by(device, contents, room, |state, chip, latch, answers| {
-        let (cells, identification) = (&mut chip.cells, &mut chip.identification);
-        let number = device.number;
-        run(
-            number,
-            state,
-            cells,
-            identification,
-            latch,
-            trace,
-            answers,
-            usize::MAX,
-        )
-    })
+    play_wrongly(Fault::None, device, contents, trace, usize::MAX, usize::MAX)
 }
 
 /// `play` with a mistake, with room for no more than `room` answers and at most `limit` records.
@@ -152,39 +139,23 @@ pub fn play_wrongly(
     room: usize,
     limit: usize,
 ) -> Played {
-    let room = room.min(most_records(trace));
-    play_by(device, contents, room, |state, chip, latch, answers| {
-        let (cells, identification) = (&mut chip.cells, &mut chip.identification);
-        let number = device.number;
-        run_wrongly(
-            fault,
-            number,
-            state,
-            cells,
-            identification,
-            latch,
-            trace,
-            answers,
-            limit,
-        )
-    })
-}
-
-/// Gives `run` a device with these contents, at rest, and takes the contents back.
-fn play_by(
-    device: &Device,
-    contents: &mut Contents,
-    room: usize,
-    run: impl FnOnce(&mut State, &mut Contents, &mut [u8], &mut [u8]) -> Ran,
-) -> Played {
     let mut state = State {
         status: contents.status,
         locked: contents.locked,
         ..State::prepared()
     };
     let mut latch = vec![0; 2 * device.page];
-    let mut answers = vec![UNTOUCHED; room];
-    let ran = run(&mut state, contents, &mut latch, &mut answers);
+    let mut answers = vec![UNTOUCHED; room.min(most_records(trace))];
+    let ran = match lend(
+        device.number,
+        &mut state,
+        &mut contents.cells,
+        &mut contents.identification,
+        &mut latch,
+    ) {
+        Ok(chip) => run_wrongly(fault, chip, trace, &mut answers, limit),
+        Err(number) => Ran::refused(number),
+    };
     contents.status = state.status;
     contents.locked = state.locked;
     let rest = &answers[ran.done..];

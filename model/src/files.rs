@@ -3,7 +3,7 @@
 use std::fs;
 use std::io::ErrorKind;
 
-use crate::contents::{play, play_wrongly, Contents};
+use crate::contents::{play_wrongly, Contents};
 use crate::device::{device, Device};
 use crate::fault::Fault;
 
@@ -16,17 +16,8 @@ pub fn play_files(fault: Fault, arguments: &[String]) -> Result<String, String> 
     let device = device_named(number)?;
     let mut contents = read_chip(fault, device, chip)?;
     let records = fs::read(trace).map_err(|error| format!("{trace}: {error}"))?;
-    let played = match fault {
-        Fault::None => play(device, &mut contents, &records),
-        _ => play_wrongly(
-            fault,
-            device,
-            &mut contents,
-            &records,
-            usize::MAX,
-            usize::MAX,
-        ),
-    };
+    let all = usize::MAX;
+    let played = play_wrongly(fault, device, &mut contents, &records, all, all);
     fs::write(answers, &played.answers).map_err(|error| format!("{answers}: {error}"))?;
     fs::write(chip, contents.to_bytes()).map_err(|error| format!("{chip}: {error}"))?;
     Ok(played.line())

@@ -8,6 +8,7 @@
 mod commands;
 mod disturb;
 mod inputs;
+mod made;
 mod malformed;
 mod random;
 mod steps;
@@ -16,6 +17,7 @@ use crate::device::Device;
 use crate::trace::{append_record, Event};
 use commands::Maker;
 pub use inputs::{bench_input, odd_bench_input, ODD_BENCH_INPUTS};
+pub use made::made_events;
 pub use malformed::{tail, TAILS};
 pub use random::Random;
 
@@ -87,6 +89,36 @@ pub fn events(profile: Profile, device: &'static Device, seed: u64, records: usi
         maker.step(profile);
     }
     maker.leave_open();
+    maker.events
+}
+
+/// How often a step of `short_events` may be too long before the trace is taken as full.
+const STEPS_TOO_LONG: usize = 8;
+
+/// The events of a trace of at most `most` events, all its steps whole. About one trace in four is then cut at some
+/// moment, most often within a selection.
+pub fn short_events(
+    profile: Profile,
+    device: &'static Device,
+    seed: u64,
+    most: usize,
+) -> Vec<Event> {
+    // No records asked for: a short trace may lock at once.
+    let mut maker = Maker::new(device, seed, 0);
+    let mut too_long = 0;
+    while too_long < STEPS_TOO_LONG {
+        let before = maker.events.len();
+        maker.step(profile);
+        if maker.events.len() > most {
+            maker.events.truncate(before);
+            too_long += 1;
+        }
+    }
+    if maker.random.once_in(4) {
+        let length = maker.events.len();
+        let cut = length - maker.random.below(length / 2 + 1);
+        maker.events.truncate(cut);
+    }
     maker.events
 }
 

@@ -16,6 +16,7 @@ mod mistakes;
 mod number;
 mod rules;
 mod state;
+mod stored;
 mod trace;
 
 pub use bench::{bench, BENCH_CELLS, BENCH_INPUT};
@@ -27,4 +28,5 @@ pub use files::play_files;
 pub use mistakes::bench_wrongly;
 pub use number::Number;
 pub use state::{is_sound, status_byte, Cycle, Instruction, Output, State, MOST_WHOLE_BYTES};
+pub use stored::Vector;
 pub use trace::{append_record, Event};

@@ -10,7 +10,7 @@ mod judging;
 mod records;
 mod sending;
 
-use crate::calls::{lend, run, Ran, IDENTIFICATION_CODE};
+use crate::calls::{run_records, Ran, IDENTIFICATION_CODE};
 use crate::device::Device;
 use crate::fault::Fault;
 use crate::rules::Chip;
@@ -28,38 +28,17 @@ pub(crate) fn prepared(fault: Fault, device: &Device, identification: &mut [u8])
     identification[..start.len()].copy_from_slice(&start);
 }
 
-/// `run`, with a mistake.
-#[allow(clippy::too_many_arguments)] // as `run`
+/// `run_records`, with a mistake.
 pub(crate) fn run_wrongly(
     fault: Fault,
-    device: u8,
-    state: &mut State,
-    cells: &mut [u8],
-    identification: &mut [u8],
-    latch: &mut [u8],
+    mut chip: Chip,
     trace: &[u8],
     answers: &mut [u8],
     limit: usize,
 ) -> Ran {
-    if fault == Fault::None {
-        return run(
-            device,
-            state,
-            cells,
-            identification,
-            latch,
-            trace,
-            answers,
-            limit,
-        );
-    }
-    match lend(device, state, cells, identification, latch) {
-        Ok(chip) => Mistaken::new(fault, chip).run(trace, answers, limit),
-        Err(number) => Ran {
-            number,
-            done: 0,
-            taken: 0,
-        },
+    match fault {
+        Fault::None => run_records(&mut chip, trace, answers, limit),
+        _ => Mistaken::new(fault, chip).run(trace, answers, limit),
     }
 }
 

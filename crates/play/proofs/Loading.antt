@@ -1,15 +1,15 @@
--- What the devices need of the room, and that a prepared chip with what its file holds is not refused.
-use Prim.Native.Nat.{ℕ, zero, suc, _+_, _-_, _≤_}
+-- That a prepared chip with what its file holds is not refused.
+use Prim.Native.Nat.{ℕ, _+_, _≤_}
 use mathlib.Core.Path.{_≡_, refl, sym, ap, _∙_, subst}
-use mathlib.Core.Bool.{Bool, true, not}
+use mathlib.Core.Bool.{Bool, true}
 use mathlib.Core.List.{List}
-use lib.ListN.{length, getD}
-use lib.Dec.{leb, lit≤}
+use lib.ListN.{length}
+use lib.Dec.{leb}
 use borrow.Author.Tests.{le-leb}
 use Rattle.rules.specs.declared.Row.{Row}
 use Rattle.rules.specs.declared.State.{State}
 use Rattle.rules.specs.World.{worldOf}
-use Rattle.rules.specs.Device.{Widths, m95040, table, isDevice, rowOf, prepared}
+use Rattle.rules.specs.Device.{Widths, isDevice, rowOf, prepared}
 use Rattle.rules.specs.Judge.{storable}
 use Rattle.rules.specs.Sound.{Sound, Lent}
 use Rattle.rules.specs.Call.{lentRefusal, worldRefusal, preparedAs, prepareOutcome}
@@ -20,17 +20,7 @@ use Rattle.rules.proofs.Incident.{prepared-sound, prepared-lent}
 use Rattle.player.specs.Stored.{loadedState}
 use Rattle.player.proofs.Playing.{lent-known}
 
--- What every device needs of the room.
-pub room : (device : ℕ) (row : Row) → row ≡ rowOf device → (row .cells ≤ 262_144) × (row .page ≤ 256)
-room device row e = rw e (entry (device - 1))
-  where
-    entry : (i : ℕ) → (getD table i m95040 .cells ≤ 262_144) × (getD table i m95040 .page ≤ 256)
-    entry zero = (lit≤ tt, lit≤ tt)
-    entry (suc zero) = (lit≤ tt, lit≤ tt)
-    entry (suc (suc zero)) = (lit≤ tt, lit≤ tt)
-    entry (suc (suc (suc zero))) = (lit≤ tt, lit≤ tt)
-    entry (suc (suc (suc (suc i)))) = (lit≤ tt, lit≤ tt)
-
+-- A number from 1 to 4 is a device's.
 pub a-device : (device : ℕ) → 1 ≤ device → device ≤ 4 → isDevice device ≡ true
 a-device device a b = and-both (leb 1 device) (leb device 4) (le-leb 1 device a) (le-leb device 4 b)
 

@@ -7,12 +7,12 @@ use crate::trace::Event;
 
 const WREN: u8 = 0x06;
 const WRDI: u8 = 0x04;
-const RDSR: u8 = 0x05;
-const WRSR: u8 = 0x01;
-const READ: u8 = 0x03;
-const WRITE: u8 = 0x02;
-const RDID: u8 = 0x83;
-const WRID: u8 = 0x82;
+pub(super) const RDSR: u8 = 0x05;
+pub(super) const WRSR: u8 = 0x01;
+pub(super) const READ: u8 = 0x03;
+pub(super) const WRITE: u8 = 0x02;
+pub(super) const RDID: u8 = 0x83;
+pub(super) const WRID: u8 = 0x82;
 
 /// Codes that no device knows, and those that only some know.
 const ODD_CODES: [u8; 12] = [
@@ -82,6 +82,11 @@ impl Maker {
         if self.random.once_in(4) {
             self.idle_high = !self.idle_high;
         }
+        self.rest();
+    }
+
+    /// Brings all pins to rest in the SPI mode as it is.
+    pub fn rest(&mut self) {
         let rest = [
             Event::Select(true),
             Event::Hold(true),
@@ -212,7 +217,7 @@ impl Maker {
     }
 
     /// A code and an address, with any bits above the array.
-    fn array_command(&mut self, code: u8, address: usize) -> Vec<u8> {
+    pub fn array_command(&mut self, code: u8, address: usize) -> Vec<u8> {
         if self.device.number == 1 {
             return vec![code | (address >> 8 << 3) as u8, address as u8];
         }
@@ -233,7 +238,7 @@ impl Maker {
     }
 
     /// A code and a place in the identification page or, with the lock bit, the lock; other bits are random.
-    fn identification_command(&mut self, code: u8, place: usize, lock: bool) -> Vec<u8> {
+    pub fn identification_command(&mut self, code: u8, place: usize, lock: bool) -> Vec<u8> {
         let lock_bit = self.device.lock_bit();
         let in_page = self.device.page - 1;
         let others = if self.random.level() {

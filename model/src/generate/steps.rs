@@ -17,16 +17,8 @@ impl Maker {
             Profile::Power => self.power_step(),
             Profile::Noise => self.noise_step(),
             Profile::Mixed | Profile::Malformed => {
-                let other = self.random.pick(&[
-                    Profile::Commands,
-                    Profile::Lengths,
-                    Profile::Protect,
-                    Profile::Glitch,
-                    Profile::Hold,
-                    Profile::Waits,
-                    Profile::Power,
-                    Profile::Noise,
-                ]);
+                let others = &Profile::ALL[..Profile::Mixed as usize];
+                let other = self.random.pick(others);
                 self.step(other);
             }
         }
@@ -254,13 +246,7 @@ impl Maker {
             }
         }
         self.put(&events);
-        let rest = [
-            Event::Select(true),
-            Event::Hold(true),
-            Event::Protect(true),
-            Event::Clock(self.idle_high),
-        ];
-        self.put(&rest);
+        self.rest();
         self.look_after(&command);
     }
 

@@ -1,7 +1,11 @@
 //! `sharpness [SEEDS]` shows that generated traces notice mistakes: it runs the model with each named fault beside
 //! the right one, on short traces of all profiles and devices, and prints where each first shows.
 //!
-//! A fault that no trace shows ends the program with status 1, unless a reason for it is given here.
+//! `sharpness --stored DIR` does so with the vectors that `store` wrote to DIR.
+//!
+//! A fault that nothing shows ends the program with status 1, unless a reason for it is given here.
+
+mod stored;
 
 use std::process::ExitCode;
 use std::rc::Rc;
@@ -15,6 +19,7 @@ const RECORDS: usize = 3_000;
 /// A malformed trace is about its end, so it may be short.
 const MALFORMED_RECORDS: usize = 200;
 const SEEDS: u64 = 8;
+const USE: &str = "use: sharpness [SEEDS] or sharpness --stored DIR";
 
 /// Faults that cannot show, and why.
 const UNSEEN: [(Fault, &str); 2] = [
@@ -29,14 +34,25 @@ const UNSEEN: [(Fault, &str); 2] = [
 ];
 
 fn main() -> ExitCode {
-    let seeds = match std::env::args().nth(1).map(|text| text.parse()) {
-        None => SEEDS,
-        Some(Ok(seeds)) => seeds,
-        Some(Err(_)) => {
-            eprintln!("use: sharpness [SEEDS]");
-            return ExitCode::from(2);
-        }
+    let arguments: Vec<String> = std::env::args().skip(1).collect();
+    let words: Vec<&str> = arguments.iter().map(String::as_str).collect();
+    let missed = match words[..] {
+        [] => Ok(show_generated(SEEDS)),
+        ["--stored", directory] => stored::show(directory),
+        [seeds] => seeds.parse().map(show_generated).map_err(|_| USE.into()),
+        _ => Err(USE.into()),
     };
+    match missed {
+        Ok(missed) => ExitCode::from(u8::from(missed > 0)),
+        Err(reason) => {
+            eprintln!("{reason}");
+            ExitCode::from(2)
+        }
+    }
+}
+
+/// Prints the table of generated traces and gives the number of faults that were missed without a reason.
+fn show_generated(seeds: u64) -> usize {
     let cases = cases(seeds);
     println!(
         "{} faults, {} traces, {} records",
@@ -60,7 +76,7 @@ fn main() -> ExitCode {
         })
         .count();
     println!("{missed} faults not seen without a reason");
-    ExitCode::from(u8::from(missed > 0))
+    missed
 }
 
 /// One trace with what the right model makes of it.

@@ -1,0 +1,77 @@
+-- `vectors::compare::is_good_here` meets its contract.
+use mathlib.Core.Path.{refl, sym}
+use native.Mathlib.Omega.{arith}
+use lib.Seq.{length-take-le}
+use Rattle.player.proofs.Playing.{room}
+use borrow.Author.Needs.{needs}
+use Rattle.vectors.proofs.compare.is_good_here.Statement.{statement}
+use Rattle.vectors.proofs.compare.is_good_here.Tie as tie
+
+row-of-requires : tie.Need-row-of-requires
+row-of-requires c κs = search needs
+
+add-both : tie.Need-add-both
+add-both c = omega (arith, room (c .before .before .args .h .device) (c .row-of .result) (c .row-of .ensures) .1)
+
+array-borrow-prefix-cells : tie.Need-array-borrow-prefix-cells
+array-borrow-prefix-cells c = omega (arith, room (c .before .before .args .h .device) (c .row-of .result) (c .row-of .ensures) .0)
+
+slice-aggregate-is-good : tie.Need-slice-aggregate-is-good
+slice-aggregate-is-good c = sym (length-take-le _ _ (omega (arith, room (c .before .before .before .args .h .device) (c .before .row-of .result) (c .before .row-of .ensures) .0)))
+
+array-borrow-prefix-identification : tie.Need-array-borrow-prefix-identification
+array-borrow-prefix-identification c = omega (arith, room (c .before .before .before .args .h .device) (c .before .row-of .result) (c .before .row-of .ensures) .1)
+
+slice-aggregate-is-good-2 : tie.Need-slice-aggregate-is-good-2
+slice-aggregate-is-good-2 c = sym (length-take-le _ _ (omega (arith, room (c .before .before .before .before .args .h .device) (c .before .before .row-of .result) (c .before .before .row-of .ensures) .1)))
+
+array-borrow-prefix-latch : tie.Need-array-borrow-prefix-latch
+array-borrow-prefix-latch c = omega (arith, room (c .before .before .before .before .args .h .device) (c .before .before .row-of .result) (c .before .before .row-of .ensures) .1)
+
+slice-aggregate-is-good-3 : tie.Need-slice-aggregate-is-good-3
+slice-aggregate-is-good-3 c = sym (length-take-le _ _ (omega (arith, room (c .before .before .before .before .before .args .h .device) (c .before .before .before .row-of .result) (c .before .before .before .row-of .ensures) .1)))
+
+array-borrow-prefix-blank : tie.Need-array-borrow-prefix-blank
+array-borrow-prefix-blank c = omega (arith, room (c .before .before .before .before .before .args .h .device) (c .before .before .before .row-of .result) (c .before .before .before .row-of .ensures) .0)
+
+slice-aggregate-is-good-4 : tie.Need-slice-aggregate-is-good-4
+slice-aggregate-is-good-4 c = sym (length-take-le _ _ (omega (arith, room (c .before .before .before .before .before .before .args .h .device) (c .before .before .before .before .row-of .result) (c .before .before .before .before .row-of .ensures) .0)))
+
+array-borrow-prefix-factory : tie.Need-array-borrow-prefix-factory
+array-borrow-prefix-factory c = omega (arith, room (c .before .before .before .before .before .before .args .h .device) (c .before .before .before .before .row-of .result) (c .before .before .before .before .row-of .ensures) .1)
+
+slice-aggregate-is-good-5 : tie.Need-slice-aggregate-is-good-5
+slice-aggregate-is-good-5 c = sym (length-take-le _ _ (omega (arith, room (c .before .before .before .before .before .before .before .args .h .device) (c .before .before .before .before .before .row-of .result) (c .before .before .before .before .before .row-of .ensures) .1)))
+
+array-borrow-prefix-answers : tie.Need-array-borrow-prefix-answers
+array-borrow-prefix-answers c = search needs
+
+slice-aggregate-is-good-6 : tie.Need-slice-aggregate-is-good-6
+slice-aggregate-is-good-6 c = sym (length-take-le _ _ (omega (arith, c .before .before .before .before .before .before .before .before .pre .0, c .before .before .before .before .before .before .before .before .pre .1)))
+
+is-good-requires : tie.Need-is-good-requires
+is-good-requires c κs = (c .before .before .before .before .before .before .before .before .pre, (refl, refl))
+
+returns : tie.Need-returns
+returns c = search needs
+
+pub is-good-here-spec : {M : Type 1} → statement M
+is-good-here-spec =
+    tie.close
+    (tie.spec
+    row-of-requires
+    add-both
+    array-borrow-prefix-cells
+    slice-aggregate-is-good
+    array-borrow-prefix-identification
+    slice-aggregate-is-good-2
+    array-borrow-prefix-latch
+    slice-aggregate-is-good-3
+    array-borrow-prefix-blank
+    slice-aggregate-is-good-4
+    array-borrow-prefix-factory
+    slice-aggregate-is-good-5
+    array-borrow-prefix-answers
+    slice-aggregate-is-good-6
+    is-good-requires
+    returns)

@@ -1,0 +1,2 @@
+-- How long a stored vector is.
+pub mod Vector

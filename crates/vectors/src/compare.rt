@@ -1,0 +1,172 @@
+// Running a stored vector through the library, and comparing all that is left of it with what the vector says.
+
+ghost use Prim.Native.Nat.{_+_, _*_, _≤_};
+ghost use mathlib.Core.Path.{_≡_};
+ghost use lib.ListN.{length};
+use crate::vector;
+use crate::vector::Header;
+
+// How many vectors were run, and how many differ.
+pub struct Tally {
+    pub run: u64,
+    pub different: u64,
+}
+
+pub fn none() -> Tally {
+    Tally {
+        run: 0,
+        different: 0,
+    }
+}
+
+// What stands for a file that cannot be read.
+pub fn unread() -> Tally {
+    Tally {
+        run: 0,
+        different: 1,
+    }
+}
+
+// One vector.
+fn one(is_good: bool) -> Tally {
+    Tally {
+        run: 1,
+        different: !is_good as u64,
+    }
+}
+
+pub fn add(a: Tally, b: Tally) -> Tally {
+    Tally {
+        run: std::num::wrapping_add_u64(a.run, b.run),
+        different: std::num::wrapping_add_u64(a.different, b.different),
+    }
+}
+
+// Whether the bytes from a place on are the first of some others.
+fn is_same(bytes: &[u8], at: usize, count: usize, others: &[u8]) -> bool
+    requires { ⌜ at + count ≤ length (now bytes) ⌝ }
+{
+    if others.len() < count {
+        return false;
+    }
+    for i in 0..count {
+        if bytes[at + i] != others[i] {
+            return false;
+        }
+    }
+    true
+}
+
+// Whether each byte that a vector names stands in a memory. It is set back to what a prepared device has there.
+fn take_back(bytes: &[u8], at: usize, count: usize, memory: &mut [u8], prepared: &[u8]) -> bool
+    requires { ⌜ (at + count * 5 ≤ length (now bytes)) × (length (now memory) ≡ length (now prepared)) ⌝ }
+{
+    for i in 0..count {
+        let place = at + i * 5;
+        let address = vector::four_at(bytes, place);
+        if memory.len() <= address {
+            return false;
+        }
+        if memory[address] != bytes[place + 4] {
+            return false;
+        }
+        memory[address] = prepared[address];
+    }
+    true
+}
+
+// Whether a vector's run ends as it says, with its answers and its contents.
+fn is_good(
+    bytes: &[u8],
+    at: usize,
+    h: Header,
+    cells: &mut [u8],
+    identification: &mut [u8],
+    latch: &mut [u8],
+    blank: &mut [u8],
+    factory: &mut [u8],
+    answers: &mut [u8],
+) -> bool
+    requires { ⌜ (at + 24 + h .trace + h .done + h .cells * 5 + h .page * 5 ≤ length (now bytes)) × (length (now bytes) ≤ 131072) ⌝ }
+    requires { ⌜ (length (now cells) ≡ length (now blank)) × (length (now identification) ≡ length (now factory)) ⌝ }
+{
+    let device = h.device;
+    m95::prepare(device, blank, factory, latch);
+    let ready = m95::prepare(device, cells, identification, latch);
+    let start = at + 24;
+    let end = start + h.trace;
+    let state = ready.state;
+    let limit = h.trace;
+    let ran = m95::run(
+        device,
+        state,
+        cells,
+        identification,
+        latch,
+        &bytes[start..end],
+        answers,
+        limit,
+    );
+    let after = ran.state;
+    let status = m95::status_byte(after);
+    let is_counted = (ran.number == h.number) & (ran.done == h.done) & (ran.taken == h.taken);
+    let is_told = (status == h.status) & (after.registers.locked == h.locked);
+    let named = end + h.done;
+    let paged = named + h.cells * 5;
+    let is_answered = is_same(bytes, end, h.done, answers);
+    let is_stored = take_back(bytes, named, h.cells, cells, blank);
+    let is_marked = take_back(bytes, paged, h.page, identification, factory);
+    let are_cells = is_same(cells, 0, cells.len(), blank);
+    let is_page = is_same(identification, 0, identification.len(), factory);
+    is_counted & is_told & is_answered & is_stored & is_marked & are_cells & is_page
+}
+
+// Whether the vector at a place is good, in as much of the room as its device has cells and pages.
+fn is_good_here(bytes: &[u8], at: usize, h: Header) -> bool
+    requires { ⌜ (at + 24 + h .trace + h .done + h .cells * 5 + h .page * 5 ≤ length (now bytes)) × (length (now bytes) ≤ 131072) ⌝ }
+{
+    let mut cells = [0u8; 262144];
+    let mut identification = [0u8; 256];
+    let mut latch = [0u8; 512];
+    let mut blank = [0u8; 262144];
+    let mut factory = [0u8; 256];
+    let mut answers = [0u8; 131072];
+    let row = tables::row_of(h.device);
+    let room = row.cells;
+    let page = row.page;
+    let both = page + page;
+    let length = h.trace;
+    is_good(
+        bytes,
+        at,
+        h,
+        &mut cells[..room],
+        &mut identification[..page],
+        &mut latch[..both],
+        &mut blank[..room],
+        &mut factory[..page],
+        &mut answers[..length],
+    )
+}
+
+// Runs all the vectors of a file. Bytes that are no whole vector count as one that differs.
+pub fn run_all(bytes: &[u8]) -> Tally
+    requires { ⌜ length (now bytes) ≤ 131072 ⌝ }
+{
+    let mut tally = none();
+    let mut at = 0;
+    while at < bytes.len() {
+        let left = bytes.len() - at;
+        if left < 24 {
+            return add(tally, unread());
+        }
+        let h = vector::header_at(bytes, at);
+        let size = vector::size_of(h);
+        if left < size {
+            return add(tally, unread());
+        }
+        tally = add(tally, one(is_good_here(bytes, at, h)));
+        at += size;
+    }
+    tally
+}

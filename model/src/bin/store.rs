@@ -1,0 +1,122 @@
+//! `store DIR` writes vectors to DIR, one file for each profile, named as the profile; `Vector` says how a file is
+//! laid out. The same files come out each time.
+
+use std::fs;
+use std::path::Path;
+use std::process::ExitCode;
+
+use m95::generate::{made_events, records_of, short_events, tail, Profile, TAILS};
+use m95::{Device, Fault, Vector, DEVICES};
+
+/// Records of a trace, at most.
+const RECORDS: usize = 400;
+/// Records of a trace that is more than a start, at least; in some traces hardly a step finds room.
+const FEWEST_RECORDS: usize = 150;
+/// Bytes of most records.
+const RECORD_BYTES: usize = 5;
+/// Records before the tail of a malformed trace, at most.
+const BEFORE_TAIL: usize = 300;
+/// Of each profile and device: vectors that leave cells, identification page or lock changed, and others.
+const CHANGING: usize = 3;
+const OTHERS: usize = 2;
+
+fn main() -> ExitCode {
+    let arguments: Vec<String> = std::env::args().skip(1).collect();
+    let [directory] = &arguments[..] else {
+        eprintln!("use: store DIR");
+        return ExitCode::from(2);
+    };
+    for profile in Profile::ALL {
+        let mut file = Vec::new();
+        let vectors = vectors(profile);
+        for vector in &vectors {
+            vector.append_to(&mut file);
+        }
+        let path = Path::new(directory).join(profile.name());
+        if let Err(error) = fs::write(&path, &file) {
+            eprintln!("store: {}: {error}", path.display());
+            return ExitCode::from(2);
+        }
+        println!(
+            "{:<10} {:>3} vectors {:>7} bytes",
+            profile.name(),
+            vectors.len(),
+            file.len()
+        );
+    }
+    ExitCode::SUCCESS
+}
+
+fn vectors(profile: Profile) -> Vec<Vector> {
+    if profile == Profile::Malformed {
+        return (0..TAILS).map(malformed).collect();
+    }
+    let usual = DEVICES.iter().flat_map(|device| usual(profile, device));
+    let sharp = DEVICES.iter().zip(sharp_seeds(profile));
+    let sharp = sharp.flat_map(|(device, seeds)| {
+        let seeds = seeds.iter();
+        seeds.map(|&seed| generated(profile, device, seed))
+    });
+    let made = made_events(profile);
+    let made = made
+        .iter()
+        .map(|(device, events)| Vector::of(Fault::None, device, &records_of(events)));
+    usual.chain(sharp).chain(made).collect()
+}
+
+/// A short trace with the tail number `which`. Tails of one sort follow each other in fours, so the device moves on
+/// by one more after each four.
+fn malformed(which: usize) -> Vector {
+    let device = &DEVICES[(which + which / 4 + 1) % DEVICES.len()];
+    let tail = tail(device, which);
+    let most = BEFORE_TAIL.min(RECORDS - tail.len() / RECORD_BYTES);
+    let events = short_events(Profile::Malformed, device, which as u64, most);
+    let trace = [records_of(&events), tail].concat();
+    Vector::of(Fault::None, device, &trace)
+}
+
+/// The vectors of the first seeds that give as many changing ones and others as asked for.
+fn usual(profile: Profile, device: &'static Device) -> Vec<Vector> {
+    let (mut changing, mut others) = (Vec::new(), Vec::new());
+    for seed in 0.. {
+        let vector = generated(profile, device, seed);
+        let (kept, most) = match changes(&vector) {
+            true => (&mut changing, CHANGING),
+            false => (&mut others, OTHERS),
+        };
+        if kept.len() < most && vector.answers.len() >= FEWEST_RECORDS {
+            kept.push(vector);
+        }
+        if changing.len() == CHANGING && others.len() == OTHERS {
+            break;
+        }
+    }
+    changing.append(&mut others);
+    changing
+}
+
+/// Seeds for each device whose vectors notice faults that other vectors seldom or never notice; without them
+/// `sharpness --stored` would find faults missed.
+fn sharp_seeds(profile: Profile) -> [&'static [u64]; DEVICES.len()] {
+    match profile {
+        Profile::Commands => [&[52], &[75, 89], &[68], &[89]],
+        Profile::Lengths => [&[36], &[15, 18, 59], &[], &[78, 85]],
+        Profile::Protect => [&[67, 72, 88, 89], &[87], &[6], &[6, 88]],
+        Profile::Glitch => [&[48, 89], &[], &[64, 86], &[61]],
+        Profile::Hold => [&[12, 33, 72], &[66, 87], &[], &[87]],
+        Profile::Waits => [&[35, 86], &[], &[86, 87], &[]],
+        Profile::Power => [&[30, 75], &[], &[85], &[85]],
+        Profile::Noise => [&[12, 38], &[78, 79], &[79], &[60]],
+        Profile::Mixed => [&[19], &[], &[67, 70, 89], &[16, 67]],
+        Profile::Malformed => [&[]; DEVICES.len()],
+    }
+}
+
+fn generated(profile: Profile, device: &'static Device, seed: u64) -> Vector {
+    let events = short_events(profile, device, seed, RECORDS);
+    Vector::of(Fault::None, device, &records_of(&events))
+}
+
+fn changes(vector: &Vector) -> bool {
+    !vector.cells.is_empty() || !vector.identification.is_empty() || vector.locked == 1
+}

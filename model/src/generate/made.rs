@@ -1,0 +1,285 @@
+//! Short traces made by hand, for what a few hundred random records seldom reach: a second write after a first, a
+//! chip that is locked already, each code in a cycle, hold at each bit that is sent, and an end within a cycle.
+
+use super::commands::{Maker, RDID, RDSR, READ, WRID, WRITE, WRSR};
+use super::Profile;
+use crate::device::{Device, DEVICES};
+use crate::trace::Event;
+
+/// A trace made by hand: the profile it belongs to, and its steps.
+type Made = (Profile, fn(&mut Maker));
+
+const MADE: [Made; 18] = [
+    (Profile::Commands, locks_twice),
+    (Profile::Commands, writes_two_pages),
+    (Profile::Commands, writes_both_kinds),
+    (Profile::Commands, reads_past_last_cell),
+    (Profile::Power, power_when_locked),
+    (Profile::Waits, reads_in_cycle),
+    (Profile::Waits, disables_in_cycle),
+    (Profile::Waits, writes_in_cycle),
+    (Profile::Waits, writes_identification_in_cycle),
+    (Profile::Waits, writes_status_in_cycle),
+    (Profile::Hold, holds_at_each_bit),
+    (Profile::Hold, fall_starts_hold),
+    (Profile::Hold, fall_ends_hold),
+    (Profile::Hold, fall_in_hold),
+    (Profile::Protect, protect_in_hold),
+    (Profile::Lengths, fills_a_page),
+    (Profile::Mixed, ends_in_array_cycle),
+    (Profile::Mixed, ends_in_other_cycle),
+];
+
+/// Data bytes that differ from each other, from FFh and from 00h.
+const FIRST: u8 = 0xA5;
+const SECOND: u8 = 0x3C;
+
+const RISE: Event = Event::Clock(true);
+const FALL: Event = Event::Clock(false);
+const HOLD: Event = Event::Hold(false);
+const RELEASE: Event = Event::Hold(true);
+
+/// The traces of this profile, for one device after the other.
+pub fn made_events(profile: Profile) -> Vec<(&'static Device, Vec<Event>)> {
+    let mut traces = Vec::new();
+    for (place, (of, steps)) in MADE.iter().enumerate() {
+        for device in DEVICES.iter().filter(|_| *of == profile) {
+            let mut maker = Maker::new(device, place as u64, 0);
+            steps(&mut maker);
+            traces.push((device, maker.events));
+        }
+    }
+    traces
+}
+
+impl Maker {
+    fn write_bytes(&mut self, address: usize, data: &[u8]) {
+        let bytes = self.array_command(WRITE, address);
+        self.send(&[&bytes[..], data].concat());
+    }
+
+    fn write_identification(&mut self, place: usize, value: u8) {
+        let bytes = self.identification_command(WRID, place, false);
+        self.send(&[&bytes[..], &[value]].concat());
+    }
+
+    fn lock(&mut self) {
+        let bytes = self.identification_command(WRID, 0, true);
+        self.send(&[&bytes[..], &[0x02]].concat());
+    }
+
+    fn read_lock(&mut self) {
+        let bytes = self.identification_command(RDID, 0, true);
+        self.send(&[&bytes[..], &[0]].concat());
+    }
+
+    /// Enables and starts a cycle that writes one cell.
+    fn start_array_cycle(&mut self) {
+        self.enable();
+        self.write_bytes(self.device.page + 1, &[FIRST]);
+    }
+}
+
+/// The second LID must start no cycle.
+fn locks_twice(maker: &mut Maker) {
+    maker.enable();
+    maker.lock();
+    maker.settle();
+    maker.enable();
+    maker.lock();
+    maker.look();
+}
+
+/// The marks of the first write must not come back in the second.
+fn writes_two_pages(maker: &mut Maker) {
+    maker.enable();
+    maker.write_bytes(1, &[FIRST]);
+    maker.settle();
+    maker.enable();
+    maker.write_bytes(maker.device.page + 2, &[SECOND]);
+    maker.settle();
+}
+
+/// As before, with a WRITE and a WRID.
+fn writes_both_kinds(maker: &mut Maker) {
+    maker.enable();
+    maker.write_bytes(4, &[FIRST]);
+    maker.settle();
+    maker.enable();
+    maker.write_identification(5, SECOND);
+    maker.settle();
+}
+
+fn reads_past_last_cell(maker: &mut Maker) {
+    let last = maker.device.cells - 1;
+    maker.enable();
+    maker.write_bytes(last, &[FIRST]);
+    maker.settle();
+    maker.read_at(last - 1, 3);
+}
+
+/// A lock outlasts power and stops WRID.
+fn power_when_locked(maker: &mut Maker) {
+    maker.enable();
+    maker.lock();
+    maker.settle();
+    maker.put(&[Event::Power]);
+    maker.read_lock();
+    maker.enable();
+    maker.write_identification(1, FIRST);
+    maker.settle();
+}
+
+fn reads_in_cycle(maker: &mut Maker) {
+    maker.start_array_cycle();
+    for code in [READ, RDID] {
+        let bytes = maker.array_command(code, 0);
+        maker.send(&[&bytes[..], &[0]].concat());
+    }
+    maker.settle();
+}
+
+/// RDSR shows WEL gone and the cycle still running.
+fn disables_in_cycle(maker: &mut Maker) {
+    maker.start_array_cycle();
+    maker.look();
+    maker.disable();
+    maker.look();
+    maker.enable();
+    maker.look();
+    maker.settle();
+    maker.look();
+}
+
+/// The latch belongs to the running cycle.
+fn writes_in_cycle(maker: &mut Maker) {
+    maker.start_array_cycle();
+    maker.write_bytes(2, &[SECOND]);
+    maker.look();
+    maker.settle();
+    maker.look();
+}
+
+fn writes_identification_in_cycle(maker: &mut Maker) {
+    maker.start_array_cycle();
+    maker.write_identification(2, SECOND);
+    maker.look();
+    maker.settle();
+    maker.look();
+}
+
+fn writes_status_in_cycle(maker: &mut Maker) {
+    maker.start_array_cycle();
+    maker.send(&[WRSR, 0x0C]);
+    maker.look();
+    maker.settle();
+    maker.look();
+}
+
+/// The status with WEL set, with a pause at each bit: the three ways that edges of C can fall into hold.
+fn holds_at_each_bit(maker: &mut Maker) {
+    maker.enable();
+    let mut events = maker.selection(&[RDSR]);
+    events.pop();
+    maker.put(&events);
+    let pauses = [
+        // The fall that ends hold.
+        [RISE, FALL, HOLD, RISE, RELEASE, FALL],
+        // A rise and a fall while held.
+        [RISE, FALL, HOLD, RISE, FALL, RELEASE],
+        // The fall that starts hold.
+        [RISE, HOLD, FALL, RISE, FALL, RELEASE],
+    ];
+    for pause in pauses {
+        for _ in 0..8 {
+            maker.put(&pause);
+        }
+    }
+    maker.put(&[Event::Select(true)]);
+}
+
+/// The fall that shows the top bit starts hold and takes the status; the cycle ends in hold, and the next byte shows
+/// that.
+fn fall_starts_hold(maker: &mut Maker) {
+    let wait = Event::Wait(maker.device.write_time);
+    status_at_end_of_cycle(maker, &[HOLD, FALL, wait, RELEASE]);
+}
+
+/// The fall that ends hold comes after the end of the cycle and must not take the status again.
+fn fall_ends_hold(maker: &mut Maker) {
+    let wait = Event::Wait(maker.device.write_time);
+    status_at_end_of_cycle(maker, &[FALL, HOLD, RISE, wait, RELEASE, FALL]);
+}
+
+/// As before, with a fall while held.
+fn fall_in_hold(maker: &mut Maker) {
+    let wait = Event::Wait(maker.device.write_time);
+    status_at_end_of_cycle(maker, &[FALL, HOLD, RISE, wait, FALL, RELEASE]);
+}
+
+/// Two bytes of status in a cycle, with `pause` in place of the fall that shows the first top bit.
+fn status_at_end_of_cycle(maker: &mut Maker, pause: &[Event]) {
+    maker.start_array_cycle();
+    let mut events = maker.selection(&[RDSR]);
+    events.truncate(events.len() - 2);
+    maker.put(&events);
+    maker.put(pause);
+    for _ in 0..16 {
+        maker.put(&[RISE, FALL]);
+    }
+    maker.put(&[Event::Select(true)]);
+}
+
+/// W low in hold stops WRSR with SRWD set, and on device 1.
+fn protect_in_hold(maker: &mut Maker) {
+    maker.set_status(0x80);
+    maker.enable();
+    let mut events = maker.selection(&[WRSR, 0x0C]);
+    events.pop();
+    maker.put(&events);
+    maker.put(&[
+        HOLD,
+        Event::Protect(false),
+        Event::Protect(true),
+        RELEASE,
+        Event::Select(true),
+    ]);
+    maker.look();
+    maker.settle();
+    maker.look();
+}
+
+/// A microsecond before its end the cycle has changed nothing yet.
+fn ends_in_array_cycle(maker: &mut Maker) {
+    maker.start_array_cycle();
+    maker.put(&[Event::Wait(maker.device.write_time - 1)]);
+    maker.look();
+}
+
+/// As before with the other three cycles, one for each device.
+fn ends_in_other_cycle(maker: &mut Maker) {
+    maker.enable();
+    match maker.device.number {
+        1 => maker.lock(),
+        2 => maker.send(&[WRSR, 0x8C]),
+        _ => maker.write_identification(6, FIRST),
+    }
+    maker.put(&[Event::Wait(maker.device.write_time - 1)]);
+    maker.look();
+}
+
+/// A byte more than a page on device 1, so that the last byte for a place counts; on the others, whose pages are too
+/// long for a short trace, the end of a page.
+fn fills_a_page(maker: &mut Maker) {
+    let page = maker.device.page;
+    maker.enable();
+    if maker.device.number == 1 {
+        let data = [&vec![0; page][..], &[0x0F]].concat();
+        maker.write_bytes(page + 3, &data);
+        maker.settle();
+    } else {
+        maker.write_bytes(2 * page - 1, &[FIRST, SECOND]);
+        maker.settle();
+        maker.read_at(2 * page - 1, 2);
+    }
+}

@@ -1,0 +1,101 @@
+//! The vectors that `store` writes: their layout, their size, and that the right model gives them again.
+
+use std::fs;
+use std::path::{Path, PathBuf};
+use std::process::Command;
+
+use m95::generate::Profile;
+use m95::{append_record, device, Event, Fault, Vector};
+
+/// The files of `store` in a directory of the test's own.
+fn store(name: &str) -> PathBuf {
+    let directory = Path::new(env!("CARGO_TARGET_TMPDIR")).join(name);
+    fs::create_dir_all(&directory).expect("a directory");
+    let status = Command::new(env!("CARGO_BIN_EXE_store"))
+        .arg(&directory)
+        .status()
+        .expect("store starts");
+    assert!(status.success());
+    directory
+}
+
+#[test]
+fn all_vectors_are_read_back_and_replayed() {
+    let directory = store("replayed");
+    let (mut size, mut count) = (0, 0);
+    for profile in Profile::ALL {
+        let file = fs::read(directory.join(profile.name())).expect("a file");
+        let vectors = Vector::read_all(&file).expect("whole vectors");
+        let mut again = Vec::new();
+        for (index, vector) in vectors.iter().enumerate() {
+            let place = format!("{} {index}", profile.name());
+            let row = device(vector.device).expect("a device of the table");
+            assert_eq!(Vector::of(Fault::None, row, &vector.trace), *vector);
+            assert!(vector.answers.len() <= 400, "{place}");
+            assert!(vector.trace.len() <= 2_100, "{place}");
+            assert_eq!(vector.number != 0, profile == Profile::Malformed, "{place}");
+            vector.append_to(&mut again);
+        }
+        assert_eq!(again, file);
+        for number in 1..=4 {
+            let of_device = vectors.iter().filter(|one| one.device == number);
+            assert!(of_device.count() >= 5, "{} {number}", profile.name());
+        }
+        size += file.len();
+        count += vectors.len();
+    }
+    assert!(size < 900_000, "{size} bytes");
+    assert!(count >= 300, "{count} vectors");
+}
+
+#[test]
+fn same_files_each_time() {
+    let (first, second) = (store("first"), store("second"));
+    for profile in Profile::ALL {
+        let read = |directory: &Path| fs::read(directory.join(profile.name())).expect("a file");
+        assert_eq!(read(&first), read(&second), "{}", profile.name());
+    }
+}
+
+#[test]
+fn stored_vectors_notice_every_fault_that_they_can() {
+    let output = Command::new(env!("CARGO_BIN_EXE_sharpness"))
+        .arg("--stored")
+        .arg(store("noticing"))
+        .output()
+        .expect("sharpness starts");
+    let text = String::from_utf8_lossy(&output.stdout);
+    assert_eq!(output.status.code(), Some(0), "{text}");
+}
+
+/// One vector, byte by byte: WREN, and a record that is cut.
+#[test]
+fn layout_of_a_vector() {
+    let mut trace = Vec::new();
+    append_record(&mut trace, Event::Select(false));
+    for level in [false, false, false, false, false, true, true, false] {
+        append_record(&mut trace, Event::Data(level));
+        append_record(&mut trace, Event::Clock(true));
+        append_record(&mut trace, Event::Clock(false));
+    }
+    append_record(&mut trace, Event::Select(true));
+    trace.push(3);
+    let mut vector = Vector::of(Fault::None, device(4).expect("device 4"), &trace);
+    // As after a write of a cell and of an identification byte.
+    vector.cells.push((0x3_FFFE, 0xA5));
+    vector.identification.push((0xFF, 0x3C));
+    let mut file = Vec::new();
+    vector.append_to(&mut file);
+    let mut expected = vec![4, 6, 0x02, 0];
+    expected.extend([
+        131, 0, 0, 0, 26, 0, 0, 0, 130, 0, 0, 0, 1, 0, 0, 0, 1, 0, 0, 0,
+    ]);
+    expected.extend(trace);
+    expected.extend([2; 26]);
+    expected.extend([0xFE, 0xFF, 0x03, 0x00, 0xA5, 0xFF, 0x00, 0x00, 0x00, 0x3C]);
+    assert_eq!(file, expected);
+    assert_eq!(Vector::read_all(&file), Some(vec![vector]));
+    for length in 1..file.len() {
+        assert_eq!(Vector::read_all(&file[..length]), None, "{length}");
+    }
+}
