@@ -7,10 +7,10 @@ use native.Mathlib.Omega.{arith}
 use lib.ListN.{length, getD, take, drop, replicate, length-append}
 use lib.Dec.{eqb, leb, ltb, lit≤}
 use lib.Seq.{take-append-le}
-use borrow.Author.Tests.{ne-eqb, lt-ltb, le-ltb, leb-true, ltb-false, le-leb, not-false}
+use borrow.Author.Tests.{ne-eqb, lt-ltb, le-ltb, leb-true, ltb-false, not-false}
 use Rattle.rules.specs.World.{World}
 use Rattle.rules.specs.declared.Row.{Row}
-use Rattle.rules.specs.Device.{isDevice, rowOf, prepared}
+use Rattle.rules.specs.Device.{rowOf, prepared}
 use Rattle.rules.specs.Send.{statusByte}
 use Rattle.rules.specs.Trace.{two, Progress}
 use Rattle.rules.specs.Call.{lentRefusal, preparedAs, prepareOutcome, runOutcome, firstRecord}
@@ -18,7 +18,7 @@ use Rattle.rules.specs.Program.{hexadecimal, header, lines, ended, unknown, ben
 use Rattle.rules.proofs.Choice.{if-elim, and-left, and-right}
 use Rattle.rules.proofs.Program.{bench-course}
 use Rattle.rules.proofs.Runs.{Course}
-use Rattle.m95.proofs.Calling.{status-small}
+use Rattle.m95.proofs.Calling.{a-device, status-small}
 use Rattle.text.specs.Put.{Put}
 use Rattle.text.proofs.Putting.{same-text}
 
@@ -100,13 +100,10 @@ room (suc zero) row e a b = rw e (lit≤ tt, lit≤ tt)
 room (suc (suc zero)) row e a b = rw e (lit≤ tt, lit≤ tt)
 room (suc (suc (suc d))) row e a b = absurd (omega arith)
 
-pub a-device : (device : ℕ) → 1 ≤ device → device ≤ 2 → isDevice device ≡ true
-a-device device a b = rw (le-leb 1 device a, le-leb device 4 (omega arith))
-
 -- A run of the bench: how many records it can have done, and that its state's status is a byte.
 module _ (device : ℕ) (trace : List ℕ) (p : Progress) (a : 1 ≤ device) (b : device ≤ 2) (e : p ≡ benchRun device trace) where
   ran : Course (rowOf device) trace (length trace) (length trace) p
-  ran = subst (Course (rowOf device) trace (length trace) (length trace)) (sym e) (bench-course device trace (a-device device a b))
+  ran = subst (Course (rowOf device) trace (length trace) (length trace)) (sym e) (bench-course device trace (a-device device a (omega arith)))
 
   pub ran-few : p .done * 4 ≤ length trace
   ran-few = omega (arith, ran .few, ran .inside)

@@ -29,6 +29,10 @@ use Rattle.write.proofs.Passing.{page-room}
 pub row-widths : (device : ℕ) (row : Row) → row ≡ rowOf device → Widths row
 row-widths device row e = subst Widths (sym e) (of-device device)
 
+-- A number from 1 to 4 is a device's.
+pub a-device : (device : ℕ) → 1 ≤ device → device ≤ 4 → isDevice device ≡ true
+a-device device a b = rw (le-leb 1 device a, le-leb device 4 b)
+
 -- The lent buffers.
 module _ (device : ℕ) (row : Row) (d : Bool) (er : row ≡ rowOf device) (ed : d ≡ isDevice device) where
   pub cells-at : rowOf device .cells ≡ row .cells

@@ -1,28 +1,21 @@
 -- That a prepared chip with what its file holds is not refused.
-use Prim.Native.Nat.{ℕ, _+_, _≤_}
-use mathlib.Core.Path.{_≡_, refl, sym, ap, _∙_, subst}
-use mathlib.Core.Bool.{Bool, true}
+use Prim.Native.Nat.{ℕ}
+use mathlib.Core.Path.{_≡_, sym, ap, _∙_, subst}
+use mathlib.Core.Bool.{Bool}
 use mathlib.Core.List.{List}
 use lib.ListN.{length}
-use lib.Dec.{leb}
-use borrow.Author.Tests.{le-leb}
 use Rattle.rules.specs.declared.Row.{Row}
 use Rattle.rules.specs.declared.State.{State}
 use Rattle.rules.specs.World.{worldOf}
-use Rattle.rules.specs.Device.{Widths, isDevice, rowOf, prepared}
+use Rattle.rules.specs.Device.{Widths, rowOf, prepared}
 use Rattle.rules.specs.Judge.{storable}
 use Rattle.rules.specs.Sound.{Sound, Lent}
 use Rattle.rules.specs.Call.{lentRefusal, worldRefusal, preparedAs, prepareOutcome}
-use Rattle.rules.proofs.Choice.{and-both}
 use Rattle.rules.proofs.Program.{world-taken}
 use Rattle.rules.proofs.Widths.{of-device}
 use Rattle.rules.proofs.Incident.{prepared-sound, prepared-lent}
 use Rattle.player.specs.Stored.{loadedState}
 use Rattle.player.proofs.Playing.{lent-known}
-
--- A number from 1 to 4 is a device's.
-pub a-device : (device : ℕ) → 1 ≤ device → device ≤ 4 → isDevice device ≡ true
-a-device device a b = and-both (leb 1 device) (leb device 4) (le-leb 1 device a) (le-leb device 4 b)
 
 -- A sound world stays sound with the status bits and the lock of a file, and with other cells and another identification page.
 loaded-sound : (row : Row) (s : State) (c i l c′ i′ : List ℕ) (status : ℕ) (locked : Bool) → Sound row (worldOf s c i l) → storable row status ≡ status → Sound row (worldOf (loadedState s status locked) c′ i′ l)

@@ -2,9 +2,8 @@
 use native.Mathlib.Omega.{arith}
 use mathlib.Core.Path.{sym}
 use lib.Seq.{length-take-le}
-use Rattle.m95.proofs.Calling.{lent-room}
+use Rattle.m95.proofs.Calling.{a-device, lent-room}
 use Rattle.player.proofs.Playing.{room}
-use Rattle.play.proofs.Loading.{a-device}
 use borrow.Author.Needs.{needs}
 use Rattle.play.proofs.play_device.Statement.{statement}
 use Rattle.play.proofs.play_device.Tie as tie

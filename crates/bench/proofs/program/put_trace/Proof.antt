@@ -2,8 +2,8 @@
 use native.Mathlib.Omega.{arith}
 use mathlib.Core.Path.{sym}
 use lib.Seq.{length-take-le}
-use Rattle.m95.proofs.Calling.{lent-room}
-use Rattle.bench.proofs.Printing.{room, a-device, ran-few, ran-room, ran-status, ran-text}
+use Rattle.m95.proofs.Calling.{a-device, lent-room}
+use Rattle.bench.proofs.Printing.{room, ran-few, ran-room, ran-status, ran-text}
 use borrow.Author.Needs.{needs}
 use Rattle.bench.proofs.program.put_trace.Statement.{statement}
 use Rattle.bench.proofs.program.put_trace.Tie as tie
@@ -39,7 +39,7 @@ slice-aggregate-bench-run-4 : tie.Need-slice-aggregate-bench-run-4
 slice-aggregate-bench-run-4 c = sym (length-take-le _ _ (omega (arith, c .before .before .before .before .before .before .before .before .before .before .before .pre .0 .2, c .before .before .before .before .before .before .before .before .before .before .before .pre .1 .1 .0)))
 
 bench-run-requires : tie.Need-bench-run-requires
-bench-run-requires c κs = (lent-room (c .before .before .before .before .before .before .before .before .before .before .before .args .device) (c .before .before .before .before .row-of .result) (c .before .before .before .before .row-of .ensures) (a-device (c .before .before .before .before .before .before .before .before .before .before .before .args .device) (c .before .before .before .before .before .before .before .before .before .before .before .pre .0 .0) (c .before .before .before .before .before .before .before .before .before .before .before .pre .0 .1)) _ _ _ (length-take-le _ _ (omega (arith, room (c .before .before .before .before .before .before .before .before .before .before .before .args .device) (c .before .before .before .before .row-of .result) (c .before .before .before .before .row-of .ensures) (c .before .before .before .before .before .before .before .before .before .before .before .pre .0 .0) (c .before .before .before .before .before .before .before .before .before .before .before .pre .0 .1) .0, c .before .before .before .before .before .before .before .before .before .before .before .pre .1 .0 .0))) (length-take-le _ _ (omega (arith, room (c .before .before .before .before .before .before .before .before .before .before .before .args .device) (c .before .before .before .before .row-of .result) (c .before .before .before .before .row-of .ensures) (c .before .before .before .before .before .before .before .before .before .before .before .pre .0 .0) (c .before .before .before .before .before .before .before .before .before .before .before .pre .0 .1) .1, c .before .before .before .before .before .before .before .before .before .before .before .pre .1 .0 .1))) (length-take-le _ _ (omega (arith, room (c .before .before .before .before .before .before .before .before .before .before .before .args .device) (c .before .before .before .before .row-of .result) (c .before .before .before .before .row-of .ensures) (c .before .before .before .before .before .before .before .before .before .before .before .pre .0 .0) (c .before .before .before .before .before .before .before .before .before .before .before .pre .0 .1) .1, c .before .before .before .before .before .before .before .before .before .before .before .pre .1 .0 .2))), length-take-le _ _ (omega (arith, c .before .before .before .before .before .before .before .before .before .before .before .pre .0 .2, c .before .before .before .before .before .before .before .before .before .before .before .pre .1 .1 .0)))
+bench-run-requires c κs = (lent-room (c .before .before .before .before .before .before .before .before .before .before .before .args .device) (c .before .before .before .before .row-of .result) (c .before .before .before .before .row-of .ensures) (a-device (c .before .before .before .before .before .before .before .before .before .before .before .args .device) (c .before .before .before .before .before .before .before .before .before .before .before .pre .0 .0) (omega (arith, c .before .before .before .before .before .before .before .before .before .before .before .pre .0 .1))) _ _ _ (length-take-le _ _ (omega (arith, room (c .before .before .before .before .before .before .before .before .before .before .before .args .device) (c .before .before .before .before .row-of .result) (c .before .before .before .before .row-of .ensures) (c .before .before .before .before .before .before .before .before .before .before .before .pre .0 .0) (c .before .before .before .before .before .before .before .before .before .before .before .pre .0 .1) .0, c .before .before .before .before .before .before .before .before .before .before .before .pre .1 .0 .0))) (length-take-le _ _ (omega (arith, room (c .before .before .before .before .before .before .before .before .before .before .before .args .device) (c .before .before .before .before .row-of .result) (c .before .before .before .before .row-of .ensures) (c .before .before .before .before .before .before .before .before .before .before .before .pre .0 .0) (c .before .before .before .before .before .before .before .before .before .before .before .pre .0 .1) .1, c .before .before .before .before .before .before .before .before .before .before .before .pre .1 .0 .1))) (length-take-le _ _ (omega (arith, room (c .before .before .before .before .before .before .before .before .before .before .before .args .device) (c .before .before .before .before .row-of .result) (c .before .before .before .before .row-of .ensures) (c .before .before .before .before .before .before .before .before .before .before .before .pre .0 .0) (c .before .before .before .before .before .before .before .before .before .before .before .pre .0 .1) .1, c .before .before .before .before .before .before .before .before .before .before .before .pre .1 .0 .2))), length-take-le _ _ (omega (arith, c .before .before .before .before .before .before .before .before .before .before .before .pre .0 .2, c .before .before .before .before .before .before .before .before .before .before .before .pre .1 .1 .0)))
 
 put-run-requires : tie.Need-put-run-requires
 put-run-requires c κs = (ran-room (c .before .before .before .before .before .before .before .before .before .before .before .before .before .before .before .before .before .before .before .before .before .before .args .device) (c .before .before .before .before .before .before .before .before .before .before .before .before .before .before .before .before .before .before .before .before .before .before .args .trace .now) _ (c .before .before .before .before .before .before .before .before .before .before .before .before .before .before .before .before .before .before .before .before .before .before .pre .0 .0) (c .before .before .before .before .before .before .before .before .before .before .before .before .before .before .before .before .before .before .before .before .before .before .pre .0 .1) (c .before .before .before .before .before .before .before .before .before .before .bench-run .ensures) _, omega (arith, ran-few (c .before .before .before .before .before .before .before .before .before .before .before .before .before .before .before .before .before .before .before .before .before .before .args .device) (c .before .before .before .before .before .before .before .before .before .before .before .before .before .before .before .before .before .before .before .before .before .before .args .trace .now) _ (c .before .before .before .before .before .before .before .before .before .before .before .before .before .before .before .before .before .before .before .before .before .before .pre .0 .0) (c .before .before .before .before .before .before .before .before .before .before .before .before .before .before .before .before .before .before .before .before .before .before .pre .0 .1) (c .before .before .before .before .before .before .before .before .before .before .bench-run .ensures), c .before .before .before .before .before .before .before .before .before .before .before .before .before .before .before .before .before .before .before .before .before .before .pre .0 .2, c .before .before .before .before .before .before .before .before .before .before .before .before .before .before .before .before .before .before .before .before .before .before .pre .1 .1 .1), ran-status (c .before .before .before .before .before .before .before .before .before .before .before .before .before .before .before .before .before .before .before .before .before .before .args .device) (c .before .before .before .before .before .before .before .before .before .before .before .before .before .before .before .before .before .before .before .before .before .before .args .trace .now) _ (c .before .before .before .before .before .before .before .before .before .before .before .before .before .before .before .before .before .before .before .before .before .before .pre .0 .0) (c .before .before .before .before .before .before .before .before .before .before .before .before .before .before .before .before .before .before .before .before .before .before .pre .0 .1) (c .before .before .before .before .before .before .before .before .before .before .bench-run .ensures))

@@ -1,11 +1,11 @@
--- `play::is_same` meets its contract.
+-- `play::words::is_same` meets its contract.
 use Prim.Native.Nat.{_-_}
 use mathlib.Core.Path.{_≡_, refl}
 use native.Mathlib.Omega.{arith}
 use lib.ListN.{length}
 use borrow.Author.Needs.{needs}
-use Rattle.play.proofs.is_same.Statement.{statement}
-use Rattle.play.proofs.is_same.Tie as tie
+use Rattle.play.proofs.words.is_same.Statement.{statement}
+use Rattle.play.proofs.words.is_same.Tie as tie
 
 abbrev Inv-loop : tie.InvT-loop
 Inv-loop a b i₀ i-end i = (i-end ≡ length a) × (length a ≡ length b)

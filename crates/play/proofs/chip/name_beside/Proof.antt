@@ -1,8 +1,8 @@
--- `play::name_beside` meets its contract.
+-- `play::chip::name_beside` meets its contract.
 use Rattle.text.proofs.Putting.{joined, whole}
 use borrow.Author.Needs.{needs}
-use Rattle.play.proofs.name_beside.Statement.{statement}
-use Rattle.play.proofs.name_beside.Tie as tie
+use Rattle.play.proofs.chip.name_beside.Statement.{statement}
+use Rattle.play.proofs.chip.name_beside.Tie as tie
 
 put-requires : tie.Need-put-requires
 put-requires c κs = search needs
