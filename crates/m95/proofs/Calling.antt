@@ -7,6 +7,7 @@ use native.Mathlib.Nat.{mod-le, add-sub-cancel-left}
 use native.Mathlib.Omega.{arith}
 use lib.ListN.{length, take, drop, replicate}
 use lib.Dec.{eqb}
+use mir.Val.{boolByte}
 use borrow.Author.Tests.{eqb-true, eq-eqb, ne-eqb, le-leb, lt-leb, not-false}
 use Rattle.rules.specs.declared.Row.{Row}
 use Rattle.rules.specs.declared.Event.{Event}
@@ -28,6 +29,15 @@ use Rattle.write.proofs.Passing.{page-room}
 -- The row that was looked up has the widths.
 pub row-widths : (device : ℕ) (row : Row) → row ≡ rowOf device → Widths row
 row-widths device row e = subst Widths (sym e) (of-device device)
+
+-- A flag as a byte.
+pub flag-small : (b : Bool) → boolByte b ≤ 1
+flag-small true = omega arith
+flag-small false = omega arith
+
+pub flag-number : (b : Bool) → boolByte b ≡ number b
+flag-number true = refl
+flag-number false = refl
 
 -- A number from 1 to 4 is a device's.
 pub a-device : (device : ℕ) → 1 ≤ device → device ≤ 4 → isDevice device ≡ true

@@ -59,7 +59,13 @@ fn lent_refused(device: u8, cells: &[u8], identification: &[u8], latch: &[u8]) -
 }
 
 // 1 to 5: those, or a state that is not sound, or a mark that is not 0 or 1.
-fn world_refused(device: u8, s: State, cells: &[u8], identification: &[u8], latch: &[u8]) -> usize
+pub fn world_refused(
+    device: u8,
+    s: State,
+    cells: &[u8],
+    identification: &[u8],
+    latch: &[u8],
+) -> usize
     ensures { λ r. ⌜ r ≡ worldRefusal device (worldOf s (now (cells .entry)) (now (identification .entry)) (now (latch .entry))) ⌝ }
 {
     let number = lent_refused(device, cells, identification, latch);

@@ -1,22 +1,9 @@
 -- `m95::status_byte` meets its contract.
-use Prim.Native.Nat.{_≤_}
-use mathlib.Core.Path.{_≡_, refl}
-use mathlib.Core.Bool.{Bool, true, false}
 use native.Mathlib.Omega.{arith}
-use mir.Val.{boolByte}
-use Rattle.rules.specs.World.{number}
+use Rattle.m95.proofs.Calling.{flag-small, flag-number}
 use borrow.Author.Needs.{needs}
 use Rattle.m95.proofs.status_byte.Statement.{statement}
 use Rattle.m95.proofs.status_byte.Tie as tie
-
--- A flag counts 0 or 1.
-flag-small : (b : Bool) → boolByte b ≤ 1
-flag-small true = omega arith
-flag-small false = omega arith
-
-flag-number : (b : Bool) → boolByte b ≡ number b
-flag-number true = refl
-flag-number false = refl
 
 cast-stored : tie.Need-cast-stored
 cast-stored c = search needs

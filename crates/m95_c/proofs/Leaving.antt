@@ -1,0 +1,158 @@
+-- What each call for C leaves, one law for each way through the rules.
+use Prim.Native.Nat.{ℕ, _-_, _%_, _≤_, _<_, min}
+use mathlib.Core.Path.{_≡_, refl, sym, ap, _∙_, subst}
+use mathlib.Core.Bool.{Bool, true, false, not, _&&_}
+use mathlib.Core.List.{List}
+use native.Mathlib.Nat.{mod-le, min-eq-left, min-eq-right}
+use native.Mathlib.Omega.{arith}
+use lib.Dec.{eqb, ltb}
+use lib.ListN.{length}
+use borrow.Author.Tests.{ltb-false, eq-eqb, ne-eqb, le-leb, lt-leb, not-true, not-false}
+use Rattle.rules.specs.declared.Event.{Event}
+use Rattle.rules.specs.declared.Row.{Row}
+use Rattle.rules.specs.declared.State.{State}
+use Rattle.rules.specs.World.{World, worldOf}
+use Rattle.rules.specs.Device.{isDevice, rowOf}
+use Rattle.rules.specs.Send.{statusByte}
+use Rattle.rules.specs.Trace.{lengthOf, pinEvent, progressOf}
+use Rattle.rules.specs.Call as call
+use Rattle.rules.specs.Call.{worldRefusal, prepareOutcome, eventOutcome, runOutcome, shownAs, cellPageOutcome, identificationPageOutcome}
+use Rattle.rules.proofs.Choice.{if-elim}
+use Rattle.m95.proofs.Calling.{fine}
+use Rattle.m95_c.proofs.Packing.{state-length}
+use Rattle.m95_c.specs.StateBytes.{isState, stateOf, stateAt, noState, bytesOf}
+use Rattle.m95_c.specs.Left.{deviceOf, cellsOf, pageOf, Buffers, buffersOf, preparedAs, prepareLeft, eventRefusal, eventOf, repliedAs, eventLeft, ranAs, runLeft, toldAs, statusLeft, placedAs, cellPageLeft, identificationPageLeft}
+
+pub device-small : (n : ℕ) → n ≤ 255 → n ≡ deviceOf n
+device-small n h = rw (le-leb n 255 h)
+
+pub device-large : (n : ℕ) → 255 < n → 0 ≡ deviceOf n
+device-large n h = rw (lt-leb n 255 h)
+
+-- The sizes.
+module _ (n d : ℕ) (ed : d ≡ deviceOf n) (row : Row) (er : row ≡ rowOf d) (t : Bool) (et : t ≡ isDevice d) where
+  pub cells-told : t ≡ true → row .cells ≡ cellsOf n
+  cells-told h = rw (← ed, ← et, h, er)
+
+  pub page-told : t ≡ true → row .page ≡ pageOf n
+  page-told h = rw (← ed, ← et, h, er)
+
+  pub cells-none : t ≡ false → 0 ≡ cellsOf n
+  cells-none h = rw (← ed, ← et, h)
+
+  pub page-none : t ≡ false → 0 ≡ pageOf n
+  page-none h = rw (← ed, ← et, h)
+
+-- Preparing.
+module _ (n d : ℕ) (ed : d ≡ deviceOf n) (b : Buffers) where
+  pub prepare-roomless : (s : State) (m : ℕ) → (length (b .state) ≡ 36 → ⊥) → s ≡ noState → m ≡ worldRefusal d (worldOf s (b .cells) (b .identification) (b .latch)) → preparedAs m b ≡ prepareLeft n b
+  unfolding prepareLeft
+  prepare-roomless s m h es em = rw (em, es, ed, ne-eqb (length (b .state)) 36 h)
+
+  pub prepare-room : (s : State) (m : ℕ) (bytes c i l : List ℕ) → length (b .state) ≡ 36 → call.preparedAs m (worldOf s c i l) ≡ prepareOutcome d (b .cells) (b .identification) (b .latch) → bytes ≡ bytesOf s → preparedAs m (buffersOf bytes c i l) ≡ prepareLeft n b
+  unfolding prepareLeft
+  prepare-room s m bytes c i l h eo es = rw (eq-eqb (length (b .state)) 36 h, ← ed, ← eo, es)
+
+-- An event by its kind and its number.
+module _ (kind value : ℕ) where
+  pub event-none : lengthOf kind ≡ 0 → 7 ≡ eventRefusal kind value
+  unfolding eventRefusal
+  event-none e = rw e
+
+  module _ (h : lengthOf kind ≡ 0 → ⊥) where
+    pub event-pinless : (eqb kind 1 && ltb 9 value) ≡ true → 9 ≡ eventRefusal kind value
+    unfolding eventRefusal
+    event-pinless e = rw (ne-eqb (lengthOf kind) 0 h, e)
+
+    pub event-some : (eqb kind 1 && ltb 9 value) ≡ false → 0 ≡ eventRefusal kind value
+    unfolding eventRefusal
+    event-some e = rw (ne-eqb (lengthOf kind) 0 h, e)
+
+  pub event-pin : (e : Event) → kind ≡ 1 → e ≡ pinEvent value → e ≡ eventOf kind value
+  unfolding eventOf
+  event-pin e h ee = ee ∙ rw h
+
+  pub event-wait : (w : ℕ) → kind ≡ 2 → w ≡ min value 4_294_967_295 → Event.Wait w ≡ eventOf kind value
+  unfolding eventOf
+  event-wait w h ew = rw (ew, h)
+
+  pub event-power : (kind ≡ 1 → ⊥) → (kind ≡ 2 → ⊥) → Event.Power ≡ eventOf kind value
+  unfolding eventOf
+  event-power f g = rw (ne-eqb kind 1 f, ne-eqb kind 2 g)
+
+  pub pin-small : eventRefusal kind value ≡ 0 → kind ≡ 1 → value ≤ 9
+  unfolding eventRefusal
+  pin-small e h = if-elim (λ (x : ℕ). x ≡ 0 → value ≤ 9) (ltb 9 value) (λ _ k. absurd (omega (arith, k))) (λ k _. ltb-false 9 value k) (rw (h) at e)
+
+-- A device whose buffers are not refused has a state of the right length.
+pub state-long : (d : ℕ) (s : State) (b c i l : List ℕ) (m : ℕ) → s ≡ stateOf b → m ≡ worldRefusal d (worldOf s c i l) → m ≡ 0 → length b ≡ 36
+unfolding stateOf
+state-long d s b c i l m es em z = whole (subst (λ (x : State). x .input .bits ≤ 7) es (fine d (worldOf s c i l) (sym em ∙ z) .0 .unsettled .input .few))
+  where
+    whole : stateOf b .input .bits ≤ 7 → length b ≡ 36
+    whole = if-elim (λ (x : State). x .input .bits ≤ 7 → length b ≡ 36) (isState b) (λ h _. state-length b h) (λ _ k. absurd (omega (arith, k)))
+
+-- An event.
+module _ (n d : ℕ) (ed : d ≡ deviceOf n) (b : Buffers) (s : State) (es : s ≡ stateOf (b .state)) (m : ℕ) (em : m ≡ worldRefusal d (worldOf s (b .cells) (b .identification) (b .latch))) (kind value : ℕ) where
+  pub event-whole : (m ≡ 0 → ⊥) → repliedAs m 2 b ≡ eventLeft n b kind value
+  unfolding eventLeft
+  event-whole h = rw (← ed, ← es, ← em, ne-eqb m 0 h, ne-eqb m 0 h)
+
+  module _ (z : m ≡ 0) (k : ℕ) (ek : k ≡ eventRefusal kind value) where
+    pub event-bad : (k ≡ 0 → ⊥) → repliedAs k 2 b ≡ eventLeft n b kind value
+    unfolding eventLeft
+    event-bad h = rw (← ed, ← es, ← em, z, ← ek, ne-eqb k 0 h, ne-eqb k 0 h)
+
+    module _ (zk : k ≡ 0) (e : Event) (ee : e ≡ eventOf kind value) (r a : ℕ) (t : State) (c i l : List ℕ) (eo : call.repliedAs r a (worldOf t c i l) ≡ eventOutcome d (worldOf s (b .cells) (b .identification) (b .latch)) e) where
+      kept : (r ≡ 0 → ⊥) → worldOf t c i l ≡ worldOf s (b .cells) (b .identification) (b .latch)
+      unfolding eventOutcome
+      kept h = ap (λ (o : call.Replied). o .world) eo ∙ rw (← ap (λ (o : call.Replied). o .number) eo, ne-eqb r 0 h)
+
+      pub event-refused : (r ≡ 0 → ⊥) → repliedAs r 2 (buffersOf (b .state) c i l) ≡ eventLeft n b kind value
+      unfolding eventLeft
+      event-refused h = rw (← ed, ← es, ← em, z, ← ek, zk, ← ee, ← eo, ne-eqb r 0 h) (ap (λ (w : World). repliedAs r 2 (buffersOf (b .state) (w .cells) (w .identification) (w .latch))) (kept h))
+
+      pub event-done : r ≡ 0 → (bytes : List ℕ) → bytes ≡ bytesOf t → repliedAs 0 a (buffersOf bytes c i l) ≡ eventLeft n b kind value
+      unfolding eventLeft
+      event-done h bytes eb = rw (← ed, ← es, ← em, z, ← ek, zk, ← ee, ← eo, h, eb)
+
+-- A trace.
+module _ (n d : ℕ) (ed : d ≡ deviceOf n) (b : Buffers) (s : State) (es : s ≡ stateOf (b .state)) (m : ℕ) (em : m ≡ worldRefusal d (worldOf s (b .cells) (b .identification) (b .latch))) (trace answers : List ℕ) (limit : ℕ) where
+  pub run-whole : (m ≡ 0 → ⊥) → ranAs m 0 0 answers b ≡ runLeft n b trace answers limit
+  unfolding runLeft
+  run-whole h = rw (← ed, ← es, ← em, ne-eqb m 0 h)
+
+  pub run-left : m ≡ 0 → (r taken done : ℕ) (t : State) (c i l after bytes : List ℕ) → progressOf r taken done (worldOf t c i l) after ≡ runOutcome d (worldOf s (b .cells) (b .identification) (b .latch)) trace answers limit → bytes ≡ bytesOf t
+      → ranAs r taken done after (buffersOf bytes c i l) ≡ runLeft n b trace answers limit
+  unfolding runLeft
+  run-left z r taken done t c i l after bytes eo eb = rw (← ed, ← es, ← em, z, ← eo, eb)
+
+-- The status.
+module _ (b : List ℕ) (t : Bool) (et : t ≡ isState b) where
+  pub status-none : not t ≡ true → toldAs 5 0 ≡ statusLeft b
+  unfolding statusLeft
+  status-none h = rw (← et, not-true t h)
+
+  pub status-told : (s : State) (n : ℕ) → not t ≡ false → s ≡ stateOf b → n ≡ statusByte s → toldAs 0 n ≡ statusLeft b
+  unfolding statusLeft stateOf
+  status-told s n h es en = rw (← et, not-false t h, en, es, ← et, not-false t h)
+
+-- The pages.
+module _ (n d : ℕ) (ed : d ≡ deviceOf n) (m : ℕ) (part : List ℕ) where
+  module _ (cells : List ℕ) (address : ℕ) (eo : shownAs m part ≡ cellPageOutcome d cells address) where
+    pub cell-page-refused : (m ≡ 0 → ⊥) → placedAs m 0 0 ≡ cellPageLeft n cells address
+    unfolding cellPageLeft
+    cell-page-refused h = rw (← ed, ← eo, ne-eqb m 0 h)
+
+    pub cell-page-placed : m ≡ 0 → (row : Row) → row ≡ rowOf d → (p : ℕ) → p ≡ address % row .page → placedAs 0 (address - p) (row .page) ≡ cellPageLeft n cells address
+    unfolding cellPageLeft
+    cell-page-placed z row er p ep = rw (← ed, ← eo, z, ep, er)
+
+  module _ (identification : List ℕ) (eo : shownAs m part ≡ identificationPageOutcome d identification) where
+    pub page-refused : (m ≡ 0 → ⊥) → placedAs m 0 0 ≡ identificationPageLeft n identification
+    unfolding identificationPageLeft
+    page-refused h = rw (← ed, ← eo, ne-eqb m 0 h)
+
+    pub page-placed : m ≡ 0 → placedAs 0 0 (length identification) ≡ identificationPageLeft n identification
+    unfolding identificationPageLeft
+    page-placed z = rw (← ed, ← eo, z)

@@ -1,0 +1,133 @@
+-- What each call for C leaves: its number and everything lent to it, as one function of what it was given.
+use Rattle.rules.specs.World.{ℕ, _-_, _%_, not, _&&_, List, length, eqb, leb, ltb, min, if_then_else_, World, worldOf}
+use Rattle.rules.specs.declared.Event.{Event}
+use Rattle.rules.specs.declared.State.{State}
+use Rattle.rules.specs.Device.{isDevice, rowOf}
+use Rattle.rules.specs.Send.{statusByte}
+use Rattle.rules.specs.Trace.{lengthOf, pinEvent}
+use Rattle.rules.specs.Call.{worldRefusal, prepareOutcome, eventOutcome, runOutcome, cellPageOutcome, identificationPageOutcome}
+use Rattle.m95_c.specs.StateBytes.{isState, stateOf, stateAt, noState, bytesOf}
+
+-- A number above a byte's is no device's, as 0 is.
+abbrev pub deviceOf : ℕ → ℕ
+deviceOf n = if leb n 255 then n else 0
+
+-- How many cells a device has, and how many bytes a page: 0 for a number that is no device's.
+abbrev pub cellsOf : ℕ → ℕ
+cellsOf n = if isDevice (deviceOf n) then rowOf (deviceOf n) .cells else 0
+
+abbrev pub pageOf : ℕ → ℕ
+pageOf n = if isDevice (deviceOf n) then rowOf (deviceOf n) .page else 0
+
+-- The buffers lent to a call: the state's bytes, and those of the device.
+pub record Buffers : Type 0 where
+  pub state : List ℕ
+  pub cells : List ℕ
+  pub identification : List ℕ
+  pub latch : List ℕ
+
+abbrev pub buffersOf : List ℕ → List ℕ → List ℕ → List ℕ → Buffers
+buffersOf state cells identification latch = record { state = state; cells = cells; identification = identification; latch = latch }
+
+abbrev pub worldIn : Buffers → World
+worldIn b = worldOf (stateOf (b .state)) (b .cells) (b .identification) (b .latch)
+
+abbrev pub buffersWith : World → Buffers
+buffersWith w = buffersOf (bytesOf (w .state)) (w .cells) (w .identification) (w .latch)
+
+-- 1 to 5, or 0: what every call on a device's buffers is judged by first.
+abbrev pub buffersRefusal : ℕ → Buffers → ℕ
+buffersRefusal device b = worldRefusal (deviceOf device) (worldIn b)
+
+-- Preparing. The state's room is a state or it is not by its length alone: 1 to 4 come first, then 5, and then nothing is prepared.
+pub record Prepared : Type 0 where
+  pub number : ℕ
+  pub buffers : Buffers
+
+abbrev pub preparedAs : ℕ → Buffers → Prepared
+preparedAs number b = record { number = number; buffers = b }
+
+unfoldable pub prepareLeft : ℕ → Buffers → Prepared
+prepareLeft device b =
+    let o = prepareOutcome (deviceOf device) (b .cells) (b .identification) (b .latch) in
+    let none = worldOf noState (b .cells) (b .identification) (b .latch) in
+    if eqb (length (b .state)) 36 then preparedAs (o .number) (buffersWith (o .world))
+    else preparedAs (worldRefusal (deviceOf device) none) b
+
+-- An event by the kind of its record and the number in it: 7 for a kind that is none, 9 for a pin byte above 9. No cycle lasts as long as the longest wait of a record, and a longer one counts as that.
+unfoldable pub eventRefusal : ℕ → ℕ → ℕ
+eventRefusal kind value = if eqb (lengthOf kind) 0 then 7 else if eqb kind 1 && ltb 9 value then 9 else 0
+
+unfoldable pub eventOf : ℕ → ℕ → Event
+eventOf kind value =
+    if eqb kind 1 then pinEvent value
+    else if eqb kind 2 then Event.Wait (min value 4_294_967_295)
+    else Event.Power
+
+pub record Replied : Type 0 where
+  pub number : ℕ
+  pub answer : ℕ
+  pub buffers : Buffers
+
+abbrev pub repliedAs : ℕ → ℕ → Buffers → Replied
+repliedAs number answer b = record { number = number; answer = answer; buffers = b }
+
+-- 1 to 5, then 7 and 9, then 11. A refused event answers 2 and changes nothing.
+unfoldable pub eventLeft : ℕ → Buffers → ℕ → ℕ → Replied
+eventLeft device b kind value =
+    let o = eventOutcome (deviceOf device) (worldIn b) (eventOf kind value) in
+    let n : ℕ =
+    if not (eqb (buffersRefusal device b) 0) then buffersRefusal device b
+    else if not (eqb (eventRefusal kind value) 0) then eventRefusal kind value
+    else o .number in
+    if eqb n 0 then repliedAs 0 (o .answer) (buffersWith (o .world))
+    else repliedAs n 2 b
+
+-- A trace. Refused with 1 to 5 it changes nothing; else it leaves what the library's run leaves.
+pub record Ran : Type 0 where
+  pub number : ℕ
+  pub taken : ℕ
+  pub done : ℕ
+  pub answers : List ℕ
+  pub buffers : Buffers
+
+abbrev pub ranAs : ℕ → ℕ → ℕ → List ℕ → Buffers → Ran
+ranAs number taken done answers b = record { number = number; taken = taken; done = done; answers = answers; buffers = b }
+
+unfoldable pub runLeft : ℕ → Buffers → List ℕ → List ℕ → ℕ → Ran
+runLeft device b trace answers limit =
+    let n = buffersRefusal device b in
+    let p = runOutcome (deviceOf device) (worldIn b) trace answers limit in
+    if eqb n 0 then ranAs (p .number) (p .taken) (p .done) (p .answers) (buffersWith (p .world))
+    else ranAs n 0 0 answers b
+
+-- The status of a state, sound or not: 5 and 0 for bytes that are none.
+pub record Told : Type 0 where
+  pub number : ℕ
+  pub status : ℕ
+
+abbrev pub toldAs : ℕ → ℕ → Told
+toldAs number status = record { number = number; status = status }
+
+unfoldable pub statusLeft : List ℕ → Told
+statusLeft b = if isState b then toldAs 0 (statusByte (stateAt b)) else toldAs 5 0
+
+-- A page by where it starts and how long it is; both 0 where it is refused.
+pub record Placed : Type 0 where
+  pub number : ℕ
+  pub start : ℕ
+  pub length : ℕ
+
+abbrev pub placedAs : ℕ → ℕ → ℕ → Placed
+placedAs number start length = record { number = number; start = start; length = length }
+
+unfoldable pub cellPageLeft : ℕ → List ℕ → ℕ → Placed
+cellPageLeft device cells address =
+    let o = cellPageOutcome (deviceOf device) cells address in
+    let page = rowOf (deviceOf device) .page in
+    if eqb (o .number) 0 then placedAs 0 (address - address % page) page else placedAs (o .number) 0 0
+
+unfoldable pub identificationPageLeft : ℕ → List ℕ → Placed
+identificationPageLeft device identification =
+    let o = identificationPageOutcome (deviceOf device) identification in
+    if eqb (o .number) 0 then placedAs 0 0 (length identification) else placedAs (o .number) 0 0

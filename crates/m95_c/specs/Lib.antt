@@ -1,0 +1,3 @@
+-- The state as bytes, and what each call for C leaves.
+pub mod StateBytes
+pub mod Left
