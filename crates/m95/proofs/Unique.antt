@@ -1,4 +1,4 @@
--- Any two outcomes that a public call's contract allows are equal: `unique-prepare`, `unique-event`, `unique-run`, `unique-cell-page`, `unique-identification-page`, `unique-status-byte`, `unique-prepared-state`.
+-- Any two outcomes that a public call's contract allows are equal: `unique-prepare`, `unique-event`, `unique-run`, `unique-cell-page`, `unique-identification-page`, `unique-status-byte`, `unique-prepared-state`, `unique-world-refused`.
 use Prim.Native.Nat.{ℕ}
 use mathlib.Core.Path.{_≡_, sym, _∙_}
 use mathlib.Core.List.{List}
@@ -8,10 +8,10 @@ use Rattle.rules.specs.World.{World}
 use Rattle.rules.specs.Device.{preparedState}
 use Rattle.rules.specs.Send.{statusByte}
 use Rattle.rules.specs.Trace.{Progress}
-use Rattle.rules.specs.Call.{Prepared, prepareOutcome, Replied, eventOutcome, runOutcome, Shown, cellPageOutcome, identificationPageOutcome}
+use Rattle.rules.specs.Call.{worldRefusal, Prepared, prepareOutcome, Replied, eventOutcome, runOutcome, Shown, cellPageOutcome, identificationPageOutcome}
 
 -- What a contract of the form "the outcome is this function of the input" allows is one outcome.
-unique : {A : Type 0} {x y z : A} → x ≡ z → y ≡ z → x ≡ y
+pub unique : {A : Type 0} {x y z : A} → x ≡ z → y ≡ z → x ≡ y
 unique e f = e ∙ sym f
 
 pub unique-prepare : {x y : Prepared} (device : ℕ) (cells identification latch : List ℕ) → x ≡ prepareOutcome device cells identification latch → y ≡ prepareOutcome device cells identification latch → x ≡ y
@@ -34,3 +34,6 @@ unique-status-byte s e f = unique e f
 
 pub unique-prepared-state : {x y : State} → x ≡ preparedState → y ≡ preparedState → x ≡ y
 unique-prepared-state e f = unique e f
+
+pub unique-world-refused : {x y : ℕ} (device : ℕ) (w : World) → x ≡ worldRefusal device w → y ≡ worldRefusal device w → x ≡ y
+unique-world-refused device w = unique

@@ -1,3 +1,4 @@
+-- `m95_c::device_of` meets its contract.
 use Rattle.m95_c.proofs.Leaving.{device-small, device-large}
 use borrow.Author.Needs.{needs}
 use Rattle.m95_c.proofs.device_of.Statement.{statement}

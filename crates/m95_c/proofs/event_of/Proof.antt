@@ -1,3 +1,4 @@
+-- `m95_c::event_of` meets its contract.
 use native.Mathlib.Omega.{arith}
 use Rattle.m95_c.proofs.Leaving.{event-pin, event-wait, event-power, pin-small}
 use borrow.Author.Needs.{needs}

@@ -1,3 +1,4 @@
+-- `m95_c::event_refused` meets its contract.
 use mathlib.Core.Path.{sym, _∙_}
 use Rattle.m95_c.proofs.Leaving.{event-none, event-pinless, event-some}
 use borrow.Author.Needs.{needs}

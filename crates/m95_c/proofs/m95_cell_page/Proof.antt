@@ -1,3 +1,4 @@
+-- `m95_c::m95_cell_page` meets its contract.
 use native.Mathlib.Nat.{mod-le}
 use Rattle.m95.proofs.Calling.{row-widths}
 use Rattle.m95_c.proofs.Leaving.{cell-page-refused, cell-page-placed}

@@ -1,3 +1,4 @@
+-- `m95_c::m95_cells` meets its contract.
 use Rattle.m95_c.proofs.Leaving.{cells-told, cells-none}
 use borrow.Author.Needs.{needs}
 use Rattle.m95_c.proofs.m95_cells.Statement.{statement}

@@ -1,3 +1,4 @@
+-- `m95_c::m95_event` meets its contract.
 use Rattle.m95_c.specs.Left.{buffersOf}
 use Rattle.m95_c.proofs.Leaving.{state-long, event-whole, event-bad, event-refused, event-done}
 use borrow.Author.Needs.{needs}

@@ -1,3 +1,4 @@
+-- `m95_c::m95_identification_page` meets its contract.
 use Rattle.m95_c.proofs.Leaving.{page-refused, page-placed}
 use borrow.Author.Needs.{needs}
 use Rattle.m95_c.proofs.m95_identification_page.Statement.{statement}

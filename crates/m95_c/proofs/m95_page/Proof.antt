@@ -1,3 +1,4 @@
+-- `m95_c::m95_page` meets its contract.
 use Rattle.m95_c.proofs.Leaving.{page-told, page-none}
 use borrow.Author.Needs.{needs}
 use Rattle.m95_c.proofs.m95_page.Statement.{statement}

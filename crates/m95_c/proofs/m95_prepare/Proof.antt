@@ -1,3 +1,4 @@
+-- `m95_c::m95_prepare` meets its contract.
 use Rattle.m95_c.specs.Left.{buffersOf}
 use Rattle.m95_c.proofs.Leaving.{prepare-roomless, prepare-room}
 use borrow.Author.Needs.{needs}

@@ -1,3 +1,4 @@
+-- `m95_c::m95_refusal` meets its contract.
 use mathlib.Core.Path.{_∙_}
 use borrow.Author.Needs.{needs}
 use Rattle.m95_c.proofs.m95_refusal.Statement.{statement}

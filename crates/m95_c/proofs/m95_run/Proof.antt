@@ -1,3 +1,4 @@
+-- `m95_c::m95_run` meets its contract.
 use Rattle.m95_c.specs.Left.{buffersOf}
 use Rattle.m95_c.proofs.Leaving.{state-long, run-whole, run-left}
 use borrow.Author.Needs.{needs}

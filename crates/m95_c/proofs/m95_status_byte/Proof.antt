@@ -1,3 +1,4 @@
+-- `m95_c::m95_status_byte` meets its contract.
 use Rattle.m95_c.proofs.Leaving.{status-none, status-told}
 use borrow.Author.Needs.{needs}
 use Rattle.m95_c.proofs.m95_status_byte.Statement.{statement}

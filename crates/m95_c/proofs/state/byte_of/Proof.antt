@@ -1,3 +1,4 @@
+-- `m95_c::state::byte_of` meets its contract.
 use native.Mathlib.Omega.{arith}
 use Rattle.m95_c.proofs.Packing.{eight-bits}
 use borrow.Author.Needs.{needs}

@@ -1,3 +1,4 @@
+-- `m95_c::state::cycle_at` meets its contract.
 use borrow.Author.Needs.{needs}
 use Rattle.m95_c.proofs.state.cycle_at.Statement.{statement}
 use Rattle.m95_c.proofs.state.cycle_at.Tie as tie

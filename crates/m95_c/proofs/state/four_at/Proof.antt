@@ -1,3 +1,4 @@
+-- `m95_c::state::four_at` meets its contract.
 use Prim.Native.Nat.{_+_}
 use Rattle.traces.proofs.Reading.{two-small}
 use borrow.Author.Needs.{needs}

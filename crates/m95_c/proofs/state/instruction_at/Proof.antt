@@ -1,3 +1,4 @@
+-- `m95_c::state::instruction_at` meets its contract.
 use Rattle.m95_c.proofs.Packing.{instruction-past}
 use borrow.Author.Needs.{needs}
 use Rattle.m95_c.proofs.state.instruction_at.Statement.{statement}

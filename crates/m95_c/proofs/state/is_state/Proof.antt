@@ -1,3 +1,4 @@
+-- `m95_c::state::is_state` meets its contract.
 use Rattle.m95_c.proofs.Packing.{wrong-length, right-length}
 use borrow.Author.Needs.{needs}
 use Rattle.m95_c.proofs.state.is_state.Statement.{statement}

@@ -1,3 +1,4 @@
+-- `m95_c::state::kind_at` meets its contract.
 use Rattle.m95_c.proofs.Packing.{kind-past}
 use borrow.Author.Needs.{needs}
 use Rattle.m95_c.proofs.state.kind_at.Statement.{statement}

@@ -1,3 +1,4 @@
+-- `m95_c::state::level_at` meets its contract.
 use Rattle.m95_c.proofs.Packing.{level-past}
 use borrow.Author.Needs.{needs}
 use Rattle.m95_c.proofs.state.level_at.Statement.{statement}

@@ -1,3 +1,4 @@
+-- `m95_c::state::no_state` meets its contract.
 use borrow.Author.Needs.{needs}
 use Rattle.m95_c.proofs.state.no_state.Statement.{statement}
 use Rattle.m95_c.proofs.state.no_state.Tie as tie

@@ -1,3 +1,4 @@
+-- `m95_c::state::output_at` meets its contract.
 use borrow.Author.Needs.{needs}
 use Rattle.m95_c.proofs.state.output_at.Statement.{statement}
 use Rattle.m95_c.proofs.state.output_at.Tie as tie

@@ -1,3 +1,4 @@
+-- `m95_c::state::place_at` meets its contract.
 use borrow.Author.Needs.{needs}
 use Rattle.m95_c.proofs.state.place_at.Statement.{statement}
 use Rattle.m95_c.proofs.state.place_at.Tie as tie

@@ -1,3 +1,4 @@
+-- `m95_c::state::put_flags` meets its contract.
 use mathlib.Core.Path.{refl, _∙_}
 use Rattle.m95_c.proofs.Packing.{put-over, flags-put}
 use native.Mathlib.Omega.{arith}

@@ -1,3 +1,4 @@
+-- `m95_c::state::put_numbers` meets its contract.
 use mathlib.Core.Path.{refl, _∙_}
 use Rattle.m95_c.proofs.Packing.{put-over, four-put, numbers-put}
 use borrow.Author.Needs.{needs}

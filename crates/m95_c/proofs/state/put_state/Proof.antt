@@ -1,3 +1,4 @@
+-- `m95_c::state::put_state` meets its contract.
 use Rattle.m95_c.proofs.Packing.{parts-put}
 use borrow.Author.Needs.{needs}
 use Rattle.m95_c.proofs.state.put_state.Statement.{statement}

@@ -1,3 +1,4 @@
+-- `m95_c::state::state_of` meets its contract.
 use Rattle.m95_c.proofs.Packing.{of-none, of-state, long-enough}
 use borrow.Author.Needs.{needs}
 use Rattle.m95_c.proofs.state.state_of.Statement.{statement}

@@ -1,0 +1,247 @@
+//! The proved library for Rust: each call of include/m95.h on slices. A slice is what its pointer and length say, and no two that may
+//! be written to overlap, so that all the header asks of a caller holds and every call here is safe.
+
+/// The bytes of a state.
+pub const STATE_BYTES: usize = 36;
+
+mod c {
+    extern "C" {
+        pub fn m95_cells(device: usize) -> usize;
+        pub fn m95_page(device: usize) -> usize;
+        pub fn m95_refusal(
+            device: usize,
+            state: *const u8,
+            state_length: usize,
+            cells: *const u8,
+            cells_length: usize,
+            identification: *const u8,
+            identification_length: usize,
+            latch: *const u8,
+            latch_length: usize,
+        ) -> usize;
+        pub fn m95_prepare(
+            device: usize,
+            state: *mut u8,
+            state_length: usize,
+            cells: *mut u8,
+            cells_length: usize,
+            identification: *mut u8,
+            identification_length: usize,
+            latch: *mut u8,
+            latch_length: usize,
+        ) -> usize;
+        pub fn m95_event(
+            device: usize,
+            state: *mut u8,
+            state_length: usize,
+            cells: *mut u8,
+            cells_length: usize,
+            identification: *mut u8,
+            identification_length: usize,
+            latch: *mut u8,
+            latch_length: usize,
+            kind: usize,
+            value: usize,
+            answer: *mut usize,
+        ) -> usize;
+        pub fn m95_run(
+            device: usize,
+            state: *mut u8,
+            state_length: usize,
+            cells: *mut u8,
+            cells_length: usize,
+            identification: *mut u8,
+            identification_length: usize,
+            latch: *mut u8,
+            latch_length: usize,
+            trace: *const u8,
+            trace_length: usize,
+            answers: *mut u8,
+            answers_length: usize,
+            limit: usize,
+            taken: *mut usize,
+            done: *mut usize,
+        ) -> usize;
+        pub fn m95_status_byte(state: *const u8, state_length: usize, status: *mut usize) -> usize;
+        pub fn m95_cell_page(
+            device: usize,
+            cells: *const u8,
+            cells_length: usize,
+            address: usize,
+            start: *mut usize,
+            length: *mut usize,
+        ) -> usize;
+        pub fn m95_identification_page(
+            device: usize,
+            identification: *const u8,
+            identification_length: usize,
+            length: *mut usize,
+        ) -> usize;
+    }
+}
+
+/// A device's four buffers, lent to a call.
+pub struct Lent<'a> {
+    pub state: &'a mut [u8],
+    pub cells: &'a mut [u8],
+    pub identification: &'a mut [u8],
+    pub latch: &'a mut [u8],
+}
+
+/// How a trace ended.
+#[derive(Clone, Copy, Debug, PartialEq, Eq)]
+pub struct Ran {
+    pub number: usize,
+    pub taken: usize,
+    pub done: usize,
+}
+
+/// The cells of a device; 0 for a number that is no device's.
+pub fn cells(device: usize) -> usize {
+    // SAFETY: it takes and gives numbers only.
+    unsafe { c::m95_cells(device) }
+}
+
+/// The bytes of a page of a device; 0 for a number that is no device's.
+pub fn page(device: usize) -> usize {
+    // SAFETY: it takes and gives numbers only.
+    unsafe { c::m95_page(device) }
+}
+
+/// What the buffers are refused with: 1 to 5, or 0.
+pub fn refusal(device: usize, lent: &Lent) -> usize {
+    // SAFETY: each pointer is a slice's, with the slice's length, and nothing is written.
+    unsafe {
+        c::m95_refusal(
+            device,
+            lent.state.as_ptr(),
+            lent.state.len(),
+            lent.cells.as_ptr(),
+            lent.cells.len(),
+            lent.identification.as_ptr(),
+            lent.identification.len(),
+            lent.latch.as_ptr(),
+            lent.latch.len(),
+        )
+    }
+}
+
+/// Prepares a device.
+pub fn prepare(device: usize, lent: &mut Lent) -> usize {
+    // SAFETY: each pointer is a slice's, with the slice's length, and the slices are lent for writing, so that none overlap.
+    unsafe {
+        c::m95_prepare(
+            device,
+            lent.state.as_mut_ptr(),
+            lent.state.len(),
+            lent.cells.as_mut_ptr(),
+            lent.cells.len(),
+            lent.identification.as_mut_ptr(),
+            lent.identification.len(),
+            lent.latch.as_mut_ptr(),
+            lent.latch.len(),
+        )
+    }
+}
+
+/// One event, by its kind and its value: its number, and how it answers.
+pub fn event(device: usize, lent: &mut Lent, kind: usize, value: usize) -> (usize, usize) {
+    let mut answer = 0;
+    // SAFETY: as for `prepare`; the answer is a local number.
+    let number = unsafe {
+        c::m95_event(
+            device,
+            lent.state.as_mut_ptr(),
+            lent.state.len(),
+            lent.cells.as_mut_ptr(),
+            lent.cells.len(),
+            lent.identification.as_mut_ptr(),
+            lent.identification.len(),
+            lent.latch.as_mut_ptr(),
+            lent.latch.len(),
+            kind,
+            value,
+            &mut answer,
+        )
+    };
+    (number, answer)
+}
+
+/// At most `limit` records of a trace, with one answer for each that was done.
+pub fn run(device: usize, lent: &mut Lent, trace: &[u8], answers: &mut [u8], limit: usize) -> Ran {
+    let (mut taken, mut done) = (0, 0);
+    // SAFETY: as for `prepare`; the trace is only read, and the answers are lent for writing too.
+    let number = unsafe {
+        c::m95_run(
+            device,
+            lent.state.as_mut_ptr(),
+            lent.state.len(),
+            lent.cells.as_mut_ptr(),
+            lent.cells.len(),
+            lent.identification.as_mut_ptr(),
+            lent.identification.len(),
+            lent.latch.as_mut_ptr(),
+            lent.latch.len(),
+            trace.as_ptr(),
+            trace.len(),
+            answers.as_mut_ptr(),
+            answers.len(),
+            limit,
+            &mut taken,
+            &mut done,
+        )
+    };
+    Ran {
+        number,
+        taken,
+        done,
+    }
+}
+
+/// The byte that RDSR would send, or the number 5.
+pub fn status_byte(state: &[u8]) -> Result<usize, usize> {
+    let mut status = 0;
+    // SAFETY: the pointer is a slice's, with the slice's length; the status is a local number.
+    match unsafe { c::m95_status_byte(state.as_ptr(), state.len(), &mut status) } {
+        0 => Ok(status),
+        number => Err(number),
+    }
+}
+
+/// The page of cells that holds an address, or the number that refuses it.
+pub fn cell_page(device: usize, cells: &[u8], address: usize) -> Result<&[u8], usize> {
+    let (mut start, mut length) = (0, 0);
+    // SAFETY: the pointer is a slice's, with the slice's length; start and length are local numbers.
+    let number = unsafe {
+        c::m95_cell_page(
+            device,
+            cells.as_ptr(),
+            cells.len(),
+            address,
+            &mut start,
+            &mut length,
+        )
+    };
+    match number {
+        0 => Ok(&cells[start..start + length]),
+        number => Err(number),
+    }
+}
+
+/// The identification page, or the number that refuses it.
+pub fn identification_page(device: usize, identification: &[u8]) -> Result<&[u8], usize> {
+    let mut length = 0;
+    // SAFETY: the pointer is a slice's, with the slice's length; the length is a local number.
+    let number = unsafe {
+        c::m95_identification_page(
+            device,
+            identification.as_ptr(),
+            identification.len(),
+            &mut length,
+        )
+    };
+    match number {
+        0 => Ok(&identification[..length]),
+        number => Err(number),
+    }
+}

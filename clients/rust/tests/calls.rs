@@ -1,0 +1,294 @@
+//! The wrapper's calls beside the second model's: generated traces of every profile whole, in pieces and event by event, the numbers
+//! of lent buffers, the pages, and states of any bytes. Nothing is expected of either but what the other says.
+
+use m95::generate::{events, trace_with_tail, Profile, Random, TAILS};
+use m95::{Device, Event, Output, State, DEVICES};
+use proved::{Lent, STATE_BYTES};
+
+/// A device's buffers, for one of the two.
+#[derive(Clone, PartialEq)]
+struct Buffers {
+    state: Vec<u8>,
+    cells: Vec<u8>,
+    identification: Vec<u8>,
+    latch: Vec<u8>,
+}
+
+impl Buffers {
+    fn new(device: usize) -> Buffers {
+        Buffers {
+            state: vec![0xA5; STATE_BYTES],
+            cells: vec![0xA5; proved::cells(device)],
+            identification: vec![0xA5; proved::page(device)],
+            latch: vec![0xA5; 2 * proved::page(device)],
+        }
+    }
+
+    fn lent(&mut self) -> Lent<'_> {
+        Lent {
+            state: &mut self.state,
+            cells: &mut self.cells,
+            identification: &mut self.identification,
+            latch: &mut self.latch,
+        }
+    }
+
+    /// All that the device stores.
+    fn stored(&self) -> (&[u8], &[u8], &[u8]) {
+        (&self.cells, &self.identification, &self.latch)
+    }
+}
+
+/// Both prepared.
+fn prepared(device: usize) -> (Buffers, Buffers, State) {
+    let (mut ours, mut model) = (Buffers::new(device), Buffers::new(device));
+    assert_eq!(proved::prepare(device, &mut ours.lent()), 0);
+    let (number, state) = m95::prepare(
+        device as u8,
+        &mut model.cells,
+        &mut model.identification,
+        &mut model.latch,
+    );
+    assert_eq!(number as usize, 0);
+    assert!(ours.stored() == model.stored());
+    (ours, model, state)
+}
+
+#[test]
+fn sizes_are_the_models() {
+    for row in &DEVICES {
+        let device = usize::from(row.number);
+        assert_eq!(
+            (proved::cells(device), proved::page(device)),
+            (row.cells, row.page)
+        );
+    }
+    for device in [0, 5, 255, 256, 257, 260, usize::MAX] {
+        assert_eq!((proved::cells(device), proved::page(device)), (0, 0));
+    }
+}
+
+/// Runs a trace in pieces of at most `limit` records through both, with room for `room` answers in all.
+fn run_both(device: usize, trace: &[u8], limit: usize, room: usize) {
+    let (mut ours, mut model, mut state) = prepared(device);
+    let (mut answers, mut others) = (vec![7; room], vec![7; room]);
+    let (mut at, mut from) = (0, 0);
+    loop {
+        let ran = proved::run(
+            device,
+            &mut ours.lent(),
+            &trace[at..],
+            &mut answers[from..],
+            limit,
+        );
+        let other = m95::run(
+            device as u8,
+            &mut state,
+            &mut model.cells,
+            &mut model.identification,
+            &mut model.latch,
+            &trace[at..],
+            &mut others[from..],
+            limit,
+        );
+        let told = (other.number as usize, other.taken, other.done);
+        assert_eq!((ran.number, ran.taken, ran.done), told);
+        assert!(ours.stored() == model.stored() && answers == others);
+        let status = m95::status_byte(&state);
+        assert_eq!(proved::status_byte(&ours.state), Ok(usize::from(status)));
+        at += ran.taken;
+        from += ran.done;
+        if ran.number != 0 || at == trace.len() || ran.done == 0 {
+            return;
+        }
+    }
+}
+
+#[test]
+fn traces_of_every_profile() {
+    for row in &DEVICES {
+        for profile in Profile::ALL {
+            for seed in 1..=3 {
+                let trace = trace_with_tail(profile, row, seed, 3_000, seed as usize % TAILS);
+                let device = usize::from(row.number);
+                run_both(device, &trace, usize::MAX, trace.len());
+                run_both(device, &trace, 257, trace.len());
+                run_both(device, &trace, usize::MAX, 1_000);
+            }
+        }
+    }
+}
+
+#[test]
+fn every_tail() {
+    for row in &DEVICES {
+        for which in 0..TAILS {
+            let trace = trace_with_tail(Profile::Malformed, row, which as u64, 200, which);
+            run_both(usize::from(row.number), &trace, usize::MAX, trace.len());
+        }
+    }
+}
+
+/// An event as its kind and its value.
+fn numbers_of(event: Event) -> (usize, usize) {
+    match event {
+        Event::Clock(level) => (1, usize::from(level)),
+        Event::Data(level) => (1, 2 + usize::from(level)),
+        Event::Select(level) => (1, 4 + usize::from(level)),
+        Event::Hold(level) => (1, 6 + usize::from(level)),
+        Event::Protect(level) => (1, 8 + usize::from(level)),
+        Event::Wait(microseconds) => (2, microseconds as usize),
+        Event::Power => (3, 0),
+    }
+}
+
+/// One event through both.
+fn event_both(
+    row: &Device,
+    ours: &mut Buffers,
+    model: &mut Buffers,
+    state: &mut State,
+    event: Event,
+) {
+    let (kind, value) = numbers_of(event);
+    let (number, answer) = proved::event(usize::from(row.number), &mut ours.lent(), kind, value);
+    let (other, output) = m95::event(
+        row.number,
+        state,
+        &mut model.cells,
+        &mut model.identification,
+        &mut model.latch,
+        event,
+    );
+    assert_eq!((number, answer), (other as usize, output as usize));
+}
+
+/// Event by event, with a power event after each in a write cycle, which must be refused.
+#[test]
+fn event_by_event() {
+    for row in &DEVICES {
+        let (mut ours, mut model, mut state) = prepared(usize::from(row.number));
+        for event in events(Profile::Mixed, row, 5, 3_000) {
+            event_both(row, &mut ours, &mut model, &mut state, event);
+            let is_busy = m95::status_byte(&state) & 1 == 1;
+            if is_busy {
+                event_both(row, &mut ours, &mut model, &mut state, Event::Power);
+            }
+        }
+        assert!(ours.stored() == model.stored());
+    }
+}
+
+#[test]
+fn kinds_and_values_that_are_no_event() {
+    let (mut ours, _, _) = prepared(2);
+    let before = ours.clone();
+    for kind in [0, 4, 16, 256, 257, usize::MAX] {
+        assert_eq!(
+            proved::event(2, &mut ours.lent(), kind, 0),
+            (7, Output::Z as usize)
+        );
+    }
+    for value in [10, 255, 256, 1 << 32, usize::MAX] {
+        assert_eq!(
+            proved::event(2, &mut ours.lent(), 1, value),
+            (9, Output::Z as usize)
+        );
+    }
+    assert!(ours == before);
+}
+
+/// Buffers of every length about the right one, in every combination: the numbers are the model's.
+#[test]
+fn lengths_of_lent_buffers() {
+    let lengths = |right: usize| [right, 0, right - 1, right + 1];
+    for device in 0..=5 {
+        let row = &DEVICES[device.clamp(1, 4) - 1];
+        for cells in lengths(row.cells) {
+            for page in lengths(row.page) {
+                for latch in lengths(2 * row.page) {
+                    let (mut cells, mut page, mut latch) =
+                        (vec![7; cells], vec![7; page], vec![0; latch]);
+                    let (number, _) = m95::prepare(device as u8, &mut cells, &mut page, &mut latch);
+                    for room in lengths(STATE_BYTES) {
+                        let mut buffers = Buffers {
+                            state: vec![9; room],
+                            cells: vec![7; cells.len()],
+                            identification: vec![7; page.len()],
+                            latch: vec![0; latch.len()],
+                        };
+                        let before = buffers.clone();
+                        let expected = match number as usize {
+                            0 if room != STATE_BYTES => 5,
+                            number => number,
+                        };
+                        assert_eq!(proved::prepare(device, &mut buffers.lent()), expected);
+                        if expected != 0 {
+                            assert!(buffers.stored() == before.stored());
+                        }
+                    }
+                }
+            }
+        }
+    }
+}
+
+/// A prepared state with some bytes of chance is a state or gets 5, and one that takes an event is one after it.
+#[test]
+fn states_of_any_bytes() {
+    let mut random = Random::new(9);
+    let (good, _, _) = prepared(3);
+    let mut sound = 0;
+    for _ in 0..20_000 {
+        let mut buffers = good.clone();
+        for _ in 0..random.below(4) {
+            buffers.state[random.below(STATE_BYTES)] = random.below(12) as u8;
+        }
+        let before = buffers.clone();
+        let refusal = proved::refusal(3, &buffers.lent());
+        let (number, _) = proved::event(3, &mut buffers.lent(), 2, 1);
+        assert_eq!(number, refusal);
+        match refusal {
+            0 => {
+                sound += 1;
+                assert_eq!(proved::refusal(3, &buffers.lent()), 0);
+            }
+            5 => assert!(buffers == before),
+            other => panic!("{other} for bytes of a state"),
+        }
+    }
+    assert!((1..20_000).contains(&sound));
+}
+
+#[test]
+fn pages_are_the_models() {
+    for row in &DEVICES {
+        let device = usize::from(row.number);
+        let cells: Vec<u8> = (0..row.cells)
+            .map(|place| (place / row.page) as u8)
+            .collect();
+        for address in [
+            0,
+            1,
+            row.page - 1,
+            row.page,
+            row.cells - 1,
+            row.cells,
+            usize::MAX,
+        ] {
+            let (number, page) = m95::cell_page(row.number, &cells, address);
+            let expected = if number as usize == 0 {
+                Ok(page)
+            } else {
+                Err(number as usize)
+            };
+            assert_eq!(proved::cell_page(device, &cells, address), expected);
+        }
+        assert_eq!(proved::cell_page(device, &cells[1..], row.cells), Err(2));
+        assert_eq!(proved::cell_page(device + 256, &cells, 0), Err(1));
+        let page = &cells[..row.page];
+        assert_eq!(proved::identification_page(device, page), Ok(page));
+        assert_eq!(proved::identification_page(device, &cells), Err(3));
+        assert_eq!(proved::identification_page(0, page), Err(1));
+    }
+}

@@ -1,0 +1,122 @@
+-- What the bytes of a state and the places of a page are worth: what was put is read back (`read-back`), bytes that are no state get 5 (`no-state-refused`), the place of a page is the page that the library shows (`page-shown`).
+use Prim.Native.Nat.{ℕ, zero, suc, _+_, _-_, _*_, _/_, _%_, _^_, _≤_, _<_}
+use mathlib.Core.Path.{_≡_, refl, sym, ap, _∙_, subst}
+use mathlib.Core.Bool.{Bool, true, false, not, _&&_}
+use mathlib.Core.List.{List, []}
+use native.Mathlib.Nat.{mod-eq-of-lt}
+use native.Mathlib.Omega.{arith}
+use lib.Dec.{eqb, leb}
+use lib.ListN.{getD, take, drop}
+use borrow.Author.Tests.{le-leb}
+use Rattle.rules.specs.declared.Instruction.{Instruction}
+use Rattle.rules.specs.declared.Kind.{Kind}
+use Rattle.rules.specs.declared.Level.{Level}
+use Rattle.rules.specs.declared.Place.{Place}
+use Rattle.rules.specs.declared.State.{State}
+use Rattle.rules.specs.World.{if_then_else_, World, number}
+use Rattle.rules.specs.Device.{m95040, table, rowOf}
+use Rattle.rules.specs.Sound.{isSound, clauses}
+use Rattle.rules.specs.Instruction.{changes}
+use Rattle.rules.specs.Trace.{four, answerByte}
+use Rattle.rules.specs.Call.{lentRefusal, worldRefusal, cellPageOutcome}
+use Rattle.rules.proofs.Choice.{if-elim}
+use Rattle.rules.proofs.Widths.{of-device}
+use Rattle.bits.proofs.Masks.{cells-fit}
+use Rattle.m95.proofs.Calling.{fine}
+use Rattle.m95_c.specs.StateBytes.{instructions, levels, kinds, isState, stateAt, stateOf, byteOf, fourBytes, instructionNumber, kindNumber, bytesOf}
+use Rattle.m95_c.specs.Left.{deviceOf, Buffers, buffersRefusal, placedAs, cellPageLeft}
+
+-- Each part is read back.
+flag-back : (b : Bool) → eqb (number b) 1 ≡ b
+flag-back true = refl
+flag-back false = refl
+
+flag-is : (b : Bool) → leb (number b) 1 ≡ true
+flag-is true = refl
+flag-is false = refl
+
+instruction-back : (i : Instruction) → (leb (instructionNumber i) 10 ≡ true) × (getD instructions (instructionNumber i) Instruction.Unknown ≡ i)
+instruction-back Instruction.Wren = (refl, refl)
+instruction-back Instruction.Wrdi = (refl, refl)
+instruction-back Instruction.Rdsr = (refl, refl)
+instruction-back Instruction.Wrsr = (refl, refl)
+instruction-back Instruction.Read = (refl, refl)
+instruction-back Instruction.Write = (refl, refl)
+instruction-back Instruction.Rdid = (refl, refl)
+instruction-back Instruction.Rdls = (refl, refl)
+instruction-back Instruction.Wrid = (refl, refl)
+instruction-back Instruction.Lid = (refl, refl)
+instruction-back Instruction.Unknown = (refl, refl)
+
+level-back : (q : Level) → (leb (answerByte q) 2 ≡ true) × (getD levels (answerByte q) Level.Z ≡ q)
+level-back Level.Low = (refl, refl)
+level-back Level.High = (refl, refl)
+level-back Level.Z = (refl, refl)
+
+kind-back : (k : Kind) → (leb (kindNumber k) 4 ≡ true) × (getD kinds (kindNumber k) Kind.None ≡ k)
+kind-back Kind.None = (refl, refl)
+kind-back Kind.Array = (refl, refl)
+kind-back Kind.Identification = (refl, refl)
+kind-back Kind.Status = (refl, refl)
+kind-back Kind.Lock = (refl, refl)
+
+split : (n : ℕ) → n % 256 + n / 256 * 256 ≡ n
+split n = omega arith
+
+joined : (n p q r a b c : ℕ) → a + p * 256 ≡ n → b + q * 256 ≡ p → c + r * 256 ≡ q → a + b * 256 + (c + r * 256) * 65_536 ≡ n
+joined n p q r a b c e f g = omega (arith, e, f, g)
+
+four-back : (n : ℕ) → n < 2 ^ 32 → byteOf n 0 + byteOf n 8 * 256 + (byteOf n 16 + byteOf n 24 * 256) * 65_536 ≡ n
+four-back n h =
+    let first : n / 2 ^ 0 ≡ n = omega arith in
+    let third : n / 2 ^ 16 ≡ n / 256 / 256 = omega arith in
+    let fourth : n / 2 ^ 24 ≡ n / 256 / 256 / 256 = omega arith in
+    let small : n / 256 / 256 / 256 % 256 ≡ n / 256 / 256 / 256 = mod-eq-of-lt (omega (arith, h)) in
+    rw (first, third, fourth, small) (joined n (n / 256) (n / 256 / 256) (n / 256 / 256 / 256) (n % 256) (n / 256 % 256) (n / 256 / 256 % 256) (split n) (split (n / 256)) (split (n / 256 / 256)))
+
+is-state : (s : State) → isState (bytesOf s) ≡ true
+unfolding isState bytesOf
+is-state s =
+    rw (flag-is (s .pins .c), flag-is (s .pins .d), flag-is (s .pins .s), flag-is (s .pins .hold), flag-is (s .pins .w), flag-is (s .selection .selected), flag-is (s .selection .held), flag-is (s .selection .seen), flag-is (s .command .away), flag-is (s .registers .wel), flag-is (s .registers .locked), instruction-back (s .command .instruction) .0, level-back (s .output .q) .0, kind-back (s .cycle .kind) .0)
+
+state-back : (s : State) → s .place .address < 2 ^ 32 → s .place .start < 2 ^ 32 → s .place .left < 2 ^ 32 → stateAt (bytesOf s) ≡ s
+unfolding bytesOf
+state-back s a b c =
+    rw (four-back (s .place .address) a, four-back (s .place .start) b, four-back (s .place .left) c, flag-back (s .pins .c), flag-back (s .pins .d), flag-back (s .pins .s), flag-back (s .pins .hold), flag-back (s .pins .w), flag-back (s .selection .selected), flag-back (s .selection .held), flag-back (s .selection .seen), flag-back (s .command .away), flag-back (s .registers .wel), flag-back (s .registers .locked), instruction-back (s .command .instruction) .1, level-back (s .output .q) .1, kind-back (s .cycle .kind) .1)
+
+-- The numbers of a device that is not refused are small.
+time-small : (n : ℕ) → rowOf n .time ≤ 5000
+time-small n = entry (n - 1)
+  where
+    entry : (k : ℕ) → getD table k m95040 .time ≤ 5000
+    entry zero = omega arith
+    entry (suc zero) = omega arith
+    entry (suc (suc zero)) = omega arith
+    entry (suc (suc (suc zero))) = omega arith
+    entry (suc (suc (suc (suc k)))) = omega arith
+
+pub read-back : (device : ℕ) (w : World) → worldRefusal device w ≡ 0 → stateOf (bytesOf (w .state)) ≡ w .state
+unfolding stateOf
+read-back device w z =
+    let sound = fine device w z .0 .unsettled in
+    let fits = cells-fit (of-device device) in
+    rw (is-state (w .state)) (state-back (w .state) (omega (arith, sound .inside, fits)) (omega (arith, sound .cycle .inside, fits)) (left (changes (w .state .cycle .kind) .runs) refl))
+  where
+    left : (t : Bool) → changes (w .state .cycle .kind) .runs ≡ t → w .state .place .left < 2 ^ 32
+    left true e = omega (arith, fine device w z .0 .unsettled .cycle .runs e .1, time-small device)
+    left false e = omega (arith, fine device w z .0 .unsettled .cycle .rests e)
+
+pub no-state-refused : (device : ℕ) (b : Buffers) → isState (b .state) ≡ false → lentRefusal (deviceOf device) (b .cells) (b .identification) (b .latch) ≡ 0 → buffersRefusal device b ≡ 5
+unfolding worldRefusal stateOf isSound clauses
+no-state-refused device b none z = rw (z, none)
+
+pub page-shown : (device : ℕ) (cells : List ℕ) (address : ℕ) → cellPageOutcome (deviceOf device) cells address .part ≡ take (cellPageLeft device cells address .length) (drop (cellPageLeft device cells address .start) cells)
+unfolding cellPageOutcome cellPageLeft
+page-shown device cells address =
+    let n = cellPageOutcome (deviceOf device) cells address .number in
+    let page = rowOf (deviceOf device) .page in
+    chosen (eqb n 0) n (address - address % page) page
+  where
+    chosen : (t : Bool) (n start page : ℕ) → (if t then take page (drop start cells) else []) ≡ take ((if t then placedAs 0 start page else placedAs n 0 0) .length) (drop ((if t then placedAs 0 start page else placedAs n 0 0) .start) cells)
+    chosen true n start page = refl
+    chosen false n start page = refl

@@ -1,0 +1,33 @@
+-- Any two outcomes that the contract of a call for C allows are equal.
+use Prim.Native.Nat.{ℕ}
+use mathlib.Core.Path.{_≡_}
+use mathlib.Core.List.{List}
+use Rattle.m95.proofs.Unique.{unique}
+use Rattle.m95_c.specs.Left.{cellsOf, pageOf, Buffers, buffersRefusal, Prepared, prepareLeft, Replied, eventLeft, Ran, runLeft, Told, statusLeft, Placed, cellPageLeft, identificationPageLeft}
+
+pub unique-cells : {x y : ℕ} (device : ℕ) → x ≡ cellsOf device → y ≡ cellsOf device → x ≡ y
+unique-cells device e f = unique e f
+
+pub unique-page : {x y : ℕ} (device : ℕ) → x ≡ pageOf device → y ≡ pageOf device → x ≡ y
+unique-page device e f = unique e f
+
+pub unique-refusal : {x y : ℕ} (device : ℕ) (b : Buffers) → x ≡ buffersRefusal device b → y ≡ buffersRefusal device b → x ≡ y
+unique-refusal device b = unique
+
+pub unique-prepare : {x y : Prepared} (device : ℕ) (b : Buffers) → x ≡ prepareLeft device b → y ≡ prepareLeft device b → x ≡ y
+unique-prepare device b = unique
+
+pub unique-event : {x y : Replied} (device : ℕ) (b : Buffers) (kind value : ℕ) → x ≡ eventLeft device b kind value → y ≡ eventLeft device b kind value → x ≡ y
+unique-event device b kind value = unique
+
+pub unique-run : {x y : Ran} (device : ℕ) (b : Buffers) (trace answers : List ℕ) (limit : ℕ) → x ≡ runLeft device b trace answers limit → y ≡ runLeft device b trace answers limit → x ≡ y
+unique-run device b trace answers limit = unique
+
+pub unique-status-byte : {x y : Told} (state : List ℕ) → x ≡ statusLeft state → y ≡ statusLeft state → x ≡ y
+unique-status-byte state = unique
+
+pub unique-cell-page : {x y : Placed} (device : ℕ) (cells : List ℕ) (address : ℕ) → x ≡ cellPageLeft device cells address → y ≡ cellPageLeft device cells address → x ≡ y
+unique-cell-page device cells address = unique
+
+pub unique-identification-page : {x y : Placed} (device : ℕ) (identification : List ℕ) → x ≡ identificationPageLeft device identification → y ≡ identificationPageLeft device identification → x ≡ y
+unique-identification-page device identification = unique
