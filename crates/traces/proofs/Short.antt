@@ -35,6 +35,19 @@ pin-found t at a b h ea eb e =
 pub pin-is : {t : List ℕ} {at : ℕ} (n p : ℕ) → n ≡ p → p ≤ 9 → (n ≤ 9 → IsPin t at n) → IsPin t at p
 pin-is {t} {at} n p e h f = subst (IsPin t at) e (f (omega arith))
 
+-- The pin byte of D is 2 or 3, by its level.
+pub data-byte : (b : ℕ) → (eqb b 2 || eqb b 3) ≡ true → b ≡ 2 + number (eqb b 3)
+data-byte b = by (eqb b 2) (eqb b 3) refl refl
+  where
+    by : (x y : Bool) → eqb b 2 ≡ x → eqb b 3 ≡ y → (x || y) ≡ true → b ≡ 2 + number y
+    by x true e f h = eqb-true b 3 f
+    by true false e f h = eqb-true b 2 e
+    by false false e f h = clash (sym h)
+
+pub level-small : (v : Bool) → 2 + number v ≤ 9
+level-small true = omega arith
+level-small false = omega arith
+
 module _ (row : Row) (s : State) (t : List ℕ) (at : ℕ) (room : Bool) (hr : not room ≡ false) where
   pub sorted-fall : (r : Usual) → IsPin t at 0 → FallSorted row s r → Sorted row s t at room r
   sorted-fall Usual.Other p h = tt

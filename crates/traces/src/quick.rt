@@ -74,7 +74,8 @@ pub fn usual_rise(s: State) -> Usual
     Usual::Other
 }
 
-// Which way the record at a place takes.
+// Which way the record at a place takes. D low and D high take one way by one test: a branch between them would go by the data, which no
+// processor can foresee.
 pub fn sorted(row: Row, s: State, trace: &[u8], at: usize, room: bool) -> Usual
     requires { ⌜ (Widths row) × (s .place .address < row .cells) × (at ≤ length (now trace)) ⌝ }
     ensures { λ r. ⌜ Sorted row s (now (trace .entry)) at room r ⌝ }
@@ -83,11 +84,12 @@ pub fn sorted(row: Row, s: State, trace: &[u8], at: usize, room: bool) -> Usual
         return Usual::Other;
     }
     let byte = pin_byte(trace, at);
+    if (byte == 2) | (byte == 3) {
+        return Usual::Data(byte == 3);
+    }
     match byte {
         0 => usual_fall(row, s),
         1 => usual_rise(s),
-        2 => Usual::Data(false),
-        3 => Usual::Data(true),
         _ => Usual::Other,
     }
 }
