@@ -101,8 +101,21 @@ fn runs() {
     check::expect(refused.done == 0);
 }
 
+// The buffers of a prepared device are refused by nothing, and those of no device with 1.
+fn judges() {
+    let cells = [0xFFu8; 512];
+    let identification = [0xFFu8; 16];
+    let latch = [0u8; 32];
+    let state = m95::prepared_state();
+    let good = m95::world_refused(1, state, &cells, &identification, &latch);
+    check::expect(good == 0);
+    let none = m95::world_refused(5, state, &cells, &identification, &latch);
+    check::expect(none == 1);
+}
+
 fn main() {
     prepares();
+    judges();
     shows_cell_page();
     shows_identification_page();
     replies();

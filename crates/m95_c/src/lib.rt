@@ -4,12 +4,14 @@
 ghost use mathlib.Core.Path.{_≡_};
 ghost use Prim.Native.Nat.{min};
 ghost use Rattle.m95_c.specs.Left.{deviceOf, cellsOf, pageOf, buffersOf, buffersRefusal, preparedAs, prepareLeft, eventRefusal, eventOf, repliedAs, eventLeft, ranAs, runLeft, toldAs, statusLeft, placedAs, cellPageLeft, identificationPageLeft};
+use putting::put_state;
+use reading::is_state;
+use reading::no_state;
+use reading::state_of;
 use rules::Event;
-use state::no_state;
-use state::put_state;
-use state::state_of;
 
-pub mod state;
+pub mod putting;
+pub mod reading;
 
 // A number above a byte's is no device's, as 0 is.
 fn device_of(number: usize) -> u8
@@ -192,7 +194,7 @@ pub extern "C" fn m95_run(
 pub extern "C" fn m95_status_byte(state: &[u8], status: &mut usize) -> usize
     ensures { λ r. ⌜ toldAs r (now (status .exit)) ≡ statusLeft (now (state .entry)) ⌝ }
 {
-    if !state::is_state(state) {
+    if !is_state(state) {
         *status = 0;
         return 5;
     }
