@@ -82,7 +82,3 @@ module _ (row : Row) (t : List ℕ) (limit : ℕ) (w₀ : World) (a₀ : List �
 pub data-pin : (v : Bool) → pinEvent (2 + number v) ≡ Event.Data v
 data-pin true = refl
 data-pin false = refl
-
-pub data-small : (v : Bool) → 2 + number v ≤ 9
-data-small true = omega arith
-data-small false = omega arith

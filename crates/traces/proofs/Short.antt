@@ -1,26 +1,27 @@
 -- The short ways: that a record which is sorted to one is what it seems, and that the way is the rules' step.
-use Prim.Native.Nat.{ℕ, _+_, _-_, _*_, _≤_}
+use Prim.Native.Nat.{ℕ, _+_, _-_, _*_, _≤_, min}
 use mathlib.Core.Path.{_≡_, refl, sym, ap, _∙_, subst}
 use mathlib.Core.Bool.{Bool, true, false, not, _&&_, _||_, and-false}
 use mathlib.Core.List.{List, []}
 use native.Mathlib.Omega.{arith}
 use lib.ListN.{getD, length}
 use lib.Dec.{eqb, ltb}
-use borrow.Author.Tests.{eqb-true, eqb-false, ne-eqb, le-ltb, not-true, not-false}
+use borrow.Author.Tests.{eqb-true, eqb-false, eq-eqb, ne-eqb, le-ltb, not-true, not-false}
 use Rattle.rules.specs.declared.Row.{Row}
+use Rattle.rules.specs.declared.Input.{Input}
 use Rattle.rules.specs.declared.Source.{Source}
 use Rattle.rules.specs.declared.Output.{Output}
 use Rattle.rules.specs.declared.State.{State}
 use Rattle.rules.specs.declared.Event.{Event}
 use Rattle.rules.specs.World.{if_then_else_, number, withPins, withSelection, worldOf}
-use Rattle.rules.specs.Receive.{latchAfter, value, isByte, risen, risenLatch}
+use Rattle.rules.specs.Receive.{isCode, isAddress, isLast, isLatched, addressAfter, latchAfter, inputAfter, value, isByte, risen, risenLatch}
 use Rattle.rules.specs.Send.{going, sourceOf, isSending, shownAddress, outputOf, outputAfter, fallen}
 use Rattle.rules.specs.Event.{pinsAfter, decodes, react, step, refusal}
 use Rattle.rules.specs.Trace.{two, pinEvent, eventAt, recordRefusal}
 use Rattle.rules.proofs.Choice.{if-elim, if-no, and-left, and-right, and-both, clash}
 use Rattle.chip.specs.Alone.{stepAlone}
 use Rattle.traces.specs.declared.quick.Usual.{Usual}
-use Rattle.traces.specs.Quick.{IsPin, RiseSorted, FallSorted, Sorted}
+use Rattle.traces.specs.Quick.{IsPin, onlyCounts, RiseSorted, FallSorted, Sorted}
 
 -- Sorting.
 pub pin-found : (t : List ℕ) (at a b : ℕ) → 5 ≤ length t - at → a ≡ two t at → b ≡ two t (at + 2) → (eqb a 3 && eqb b 1) ≡ true → IsPin t at (getD t (at + 4) 0)
@@ -44,9 +45,9 @@ data-byte b = by (eqb b 2) (eqb b 3) refl refl
     by true false e f h = eqb-true b 2 e
     by false false e f h = clash (sym h)
 
-pub level-small : (v : Bool) → 2 + number v ≤ 9
-level-small true = omega arith
-level-small false = omega arith
+pub data-small : (v : Bool) → 2 + number v ≤ 9
+data-small true = omega arith
+data-small false = omega arith
 
 module _ (row : Row) (s : State) (t : List ℕ) (at : ℕ) (room : Bool) (hr : not room ≡ false) where
   pub sorted-fall : (r : Usual) → IsPin t at 0 → FallSorted row s r → Sorted row s t at room r
@@ -55,24 +56,31 @@ module _ (row : Row) (s : State) (t : List ℕ) (at : ℕ) (room : Bool) (hr : n
   sorted-fall Usual.Bit p h = absurd h
   sorted-fall Usual.Still p h = (not-false room hr, p, h)
   sorted-fall Usual.Shift p h = (not-false room hr, p, h)
+  sorted-fall Usual.Whole p h = absurd h
 
-  pub sorted-rise : (r : Usual) → IsPin t at 1 → RiseSorted s r → Sorted row s t at room r
+  pub sorted-rise : (r : Usual) → IsPin t at 1 → RiseSorted row s r → Sorted row s t at room r
   sorted-rise Usual.Other p h = tt
   sorted-rise (Usual.Data v) p h = absurd h
   sorted-rise Usual.Bit p h = (not-false room hr, p, h)
   sorted-rise Usual.Still p h = absurd h
   sorted-rise Usual.Shift p h = absurd h
+  sorted-rise Usual.Whole p h = (not-false room hr, p, h)
 
   pub sorted-data : (v : Bool) → IsPin t at (2 + number v) → Sorted row s t at room (Usual.Data v)
   sorted-data v p = (not-false room hr, p)
 
-pub rise-sorted : (s : State) (d : Bool) → d ≡ decodes s → (d && not (s .pins .c) && not (eqb (s .input .bits) 7)) ≡ true → RiseSorted s Usual.Bit
-rise-sorted s d ed h =
-    let l = and-left (d && not (s .pins .c)) (not (eqb (s .input .bits) 7)) h in (
-      sym ed ∙ and-left d (not (s .pins .c)) l,
-      not-true (s .pins .c) (and-right d (not (s .pins .c)) l),
-      eqb-false (s .input .bits) 7 (not-true (eqb (s .input .bits) 7) (and-right (d && not (s .pins .c)) (not (eqb (s .input .bits) 7)) h)),
-    )
+module _ (row : Row) (s : State) (d : Bool) (ed : d ≡ decodes s) (h : not (d && not (s .pins .c)) ≡ false) where
+  decodes-at : decodes s ≡ true
+  decodes-at = sym ed ∙ and-left d (not (s .pins .c)) (not-false (d && not (s .pins .c)) h)
+
+  low-at : s .pins .c ≡ false
+  low-at = not-true (s .pins .c) (and-right d (not (s .pins .c)) (not-false (d && not (s .pins .c)) h))
+
+  pub rise-bit : (s .input .bits ≡ 7 → ⊥) → RiseSorted row s Usual.Bit
+  rise-bit z = (decodes-at, low-at, z)
+
+  pub rise-whole : (b : Bool) → b ≡ onlyCounts row s → s .input .bits ≡ 7 → not b ≡ false → RiseSorted row s Usual.Whole
+  rise-whole b eb z p = (decodes-at, low-at, z, sym eb ∙ not-false b p)
 
 module _ (row : Row) (s : State) (d sending : Bool) (ed : d ≡ decodes s) (es : sending ≡ isSending row s) (hc : not (s .pins .c) ≡ false) where
   both-at : (b : Bool) → (d && sending) ≡ b → (decodes s && isSending row s) ≡ b
@@ -85,6 +93,17 @@ module _ (row : Row) (s : State) (d sending : Bool) (ed : d ≡ decodes s) (es :
   fall-shift x y h z ex ey p =
       (not-false (s .pins .c) hc, both-at true (not-false (d && sending) h), z, ap (λ (u : Source). going row u (s .place .address) .past) (sym ex ∙ ey) ∙ p)
 
+-- A byte that only counts is nothing else.
+counts-only : (row : Row) (s : State) → onlyCounts row s ≡ true → (isCode s ≡ false) × (isLast row s ≡ false) × (isAddress row s ≡ false) × (isLatched row s ≡ false)
+counts-only row s h = apart (isCode s) (isLast row s) (isAddress row s) (isLatched row s) h
+  where
+    apart : (a b c d : Bool) → not (a || b || c || d) ≡ true → (a ≡ false) × (b ≡ false) × (c ≡ false) × (d ≡ false)
+    apart false false false false e = (refl, refl, refl, refl)
+    apart true b c d e = clash (sym e)
+    apart false true c d e = clash (sym e)
+    apart false false true d e = clash (sym e)
+    apart false false false true e = clash (sym e)
+
 -- The ways.
 module _ (row : Row) (s : State) where
   pub data-way : (b : Bool) → (s .selection .selected ≡ true → s .pins .c ≡ false → s .selection .held ≡ not (s .pins .hold))
@@ -96,15 +115,24 @@ module _ (row : Row) (s : State) where
       (λ e. rw (← h (and-left (s .selection .selected) (not (s .pins .c)) e) (not-true (s .pins .c) (and-right (s .selection .selected) (not (s .pins .c)) e))))
       (λ _. refl)
 
+  -- C is high then, so that HOLD changes nothing.
+  held-kept : (i : Input) (on : Bool)
+      → withPins (pinsAfter (Event.Clock true) (s .pins)) (withSelection (s .place .address) (s .selection) i (s .command) (s .output) s)
+      ≡ withPins (pinsAfter (Event.Clock true) (s .pins)) (withSelection (s .place .address) (record { selected = s .selection .selected; held = if on && false then not (s .pins .hold) else s .selection .held; seen = s .selection .seen }) i (s .command) (s .output) s)
+  held-kept i true = refl
+  held-kept i false = refl
+
   pub bit-way : (v : ℕ) → decodes s ≡ true → s .pins .c ≡ false → (s .input .bits ≡ 7 → ⊥) → v ≡ s .input .value * 2 + number (s .pins .d)
       → withPins (pinsAfter (Event.Clock true) (s .pins)) (withSelection (s .place .address) (s .selection) (record { bits = s .input .bits + 1; value = v; bytes = s .input .bytes; last = s .input .last }) (s .command) (s .output) s) ≡ stepAlone row (Event.Clock true) s
   unfolding step react risen
-  bit-way v d c z e = rw (d, c, ne-eqb (s .input .bits) 7 z, e) (held-kept (s .selection .selected))
-    where
-      held-kept : (on : Bool) → withPins (pinsAfter (Event.Clock true) (s .pins)) (withSelection (s .place .address) (s .selection) (record { bits = s .input .bits + 1; value = s .input .value * 2 + number (s .pins .d); bytes = s .input .bytes; last = s .input .last }) (s .command) (s .output) s)
-          ≡ withPins (pinsAfter (Event.Clock true) (s .pins)) (withSelection (s .place .address) (record { selected = s .selection .selected; held = if on && false then not (s .pins .hold) else s .selection .held; seen = s .selection .seen }) (record { bits = s .input .bits + 1; value = s .input .value * 2 + number (s .pins .d); bytes = s .input .bytes; last = s .input .last }) (s .command) (s .output) s)
-      held-kept true = refl
-      held-kept false = refl
+  bit-way v d c z e = rw (d, c, ne-eqb (s .input .bits) 7 z, e) (held-kept (record { bits = s .input .bits + 1; value = s .input .value * 2 + number (s .pins .d); bytes = s .input .bytes; last = s .input .last }) (s .selection .selected))
+
+  pub whole-way : (i : Input) → decodes s ≡ true → s .pins .c ≡ false → s .input .bits ≡ 7 → onlyCounts row s ≡ true → i ≡ inputAfter (value s) (s .input)
+      → withPins (pinsAfter (Event.Clock true) (s .pins)) (withSelection (s .place .address) (s .selection) i (s .command) (s .output) s) ≡ stepAlone row (Event.Clock true) s
+  unfolding step react risen addressAfter
+  whole-way i d c z p e =
+      let none = counts-only row s p in
+      rw (e, d, c, eq-eqb (s .input .bits) 7 z, none .0, none .1, none .2, none .3) (held-kept (record { bits = 0; value = 0; bytes = min (s .input .bytes + 1) 6; last = value s }) (s .selection .selected))
 
   with-clock : (a b x : Bool) → s .pins .c ≡ true → (a && b) ≡ x → (a && s .pins .c && b) ≡ x
   with-clock a b x c h = go (s .pins .c) c
@@ -150,6 +178,19 @@ module _ (row : Row) (s r : State) (cells identification latch : List ℕ) where
       let none : isByte d s ≡ false = rw (ne-eqb (s .input .bits) 7 z) (and-false d) in
       ap (λ (x : State). worldOf x cells identification latch) e
       ∙ ap (worldOf (stepAlone row (Event.Clock true) s) cells identification) (sym (if-no (isByte d s) (latchAfter row (value s) s latch) latch none))
+
+  pub whole-alone : onlyCounts row s ≡ true → r ≡ stepAlone row (Event.Clock true) s → worldOf r cells identification latch ≡ step row (Event.Clock true) (worldOf s cells identification latch)
+  unfolding step react risenLatch latchAfter
+  whole-alone p e =
+      let d = decodes s && not (s .pins .c) in
+      let none = counts-only row s p in
+      let kept : latchAfter row (value s) s latch ≡ latch = rw (none .0, none .3) in
+      ap (λ (x : State). worldOf x cells identification latch) e
+      ∙ ap (worldOf (stepAlone row (Event.Clock true) s) cells identification) (sym (same (isByte d s) kept))
+    where
+      same : (b : Bool) {x : List ℕ} → x ≡ latch → (if b then x else latch) ≡ latch
+      same true h = h
+      same false h = refl
 
   pub still-alone : s .pins .c ≡ true → (decodes s && isSending row s) ≡ false → r ≡ stepAlone row (Event.Clock false) s
       → worldOf r cells identification latch ≡ step row (Event.Clock false) (worldOf s cells identification latch)

@@ -1,5 +1,5 @@
-// Short ways for the commonest records: D set, C rises within a byte, C falls with nothing sent, C falls within a byte. Each is the
-// rules' own step under what `sorted` has found. Everything else takes the full turn.
+// Short ways for the commonest records: D set, C rises within a byte or with the last bit of one that only counts, C falls with
+// nothing sent, C falls within a byte. Each is the rules' own step under what `sorted` has found. Everything else takes the full turn.
 
 ghost use mathlib.Core.Path.{_≡_};
 ghost use mathlib.Core.Bool.{Bool, true, false, not, _&&_};
@@ -10,12 +10,13 @@ ghost use Rattle.rules.specs.Sound.{SoundInput};
 ghost use Rattle.rules.specs.Send.{going, sourceOf, isSending};
 ghost use Rattle.rules.specs.Event.{decodes};
 ghost use Rattle.chip.specs.Alone.{stepAlone};
-ghost use Rattle.traces.specs.Quick.{IsPin, RiseSorted, FallSorted, Sorted};
+ghost use Rattle.traces.specs.Quick.{IsPin, onlyCounts, RiseSorted, FallSorted, Sorted};
 use crate::trace::two_at;
 use rules::Event;
 use rules::Row;
 use rules::Source;
 use rules::State;
+use wire::receive;
 use wire::send;
 
 pub enum Usual {
@@ -24,6 +25,7 @@ pub enum Usual {
     Bit,
     Still,
     Shift,
+    Whole,
 }
 
 // The pin byte of a whole pin record, or 255.
@@ -64,14 +66,33 @@ pub fn usual_fall(row: Row, s: State) -> Usual
     }
 }
 
-// C rises: one bit more of a byte, but not its eighth.
-pub fn usual_rise(s: State) -> Usual
-    ensures { λ r. ⌜ RiseSorted s r ⌝ }
+// Whether a whole byte would do nothing but count: it is no code, no byte of an address, and no data for the latch.
+fn only_counts(row: Row, s: State) -> bool
+    requires { ⌜ Widths row ⌝ }
+    ensures { λ r. ⌜ r ≡ onlyCounts row s ⌝ }
 {
-    if chip::event::is_decoding(s) & !s.pins.c & (s.input.bits != 7) {
+    let acts = (s.input.bytes == 0)
+        | receive::is_last(row, s)
+        | receive::is_address(row, s)
+        | receive::is_latched(row, s);
+    !acts
+}
+
+// C rises: one bit more of a byte, or the eighth of one that only counts.
+pub fn usual_rise(row: Row, s: State) -> Usual
+    requires { ⌜ Widths row ⌝ }
+    ensures { λ r. ⌜ RiseSorted row s r ⌝ }
+{
+    if !(chip::event::is_decoding(s) & !s.pins.c) {
+        return Usual::Other;
+    }
+    if s.input.bits != 7 {
         return Usual::Bit;
     }
-    Usual::Other
+    if !only_counts(row, s) {
+        return Usual::Other;
+    }
+    Usual::Whole
 }
 
 // Which way the record at a place takes. D low and D high take one way by one test: a branch between them would go by the data, which no
@@ -89,7 +110,7 @@ pub fn sorted(row: Row, s: State, trace: &[u8], at: usize, room: bool) -> Usual
     }
     match byte {
         0 => usual_fall(row, s),
-        1 => usual_rise(s),
+        1 => usual_rise(row, s),
         _ => Usual::Other,
     }
 }
@@ -115,6 +136,18 @@ pub fn quick_bit(row: Row, s: State) -> State
     t.pins.c = true;
     t.input.value = value;
     t.input.bits = more;
+    t
+}
+
+// C rises with the last bit of a byte that only counts.
+pub fn quick_whole(row: Row, s: State) -> State
+    requires { ⌜ (SoundInput (s .input)) × (decodes s ≡ true) × (s .pins .c ≡ false) × (s .input .bits ≡ 7) × (onlyCounts row s ≡ true) ⌝ }
+    ensures { λ r. ⌜ r ≡ stepAlone row (Event.Clock true) s ⌝ }
+{
+    let input = receive::with_bit(s.input, s.pins.d);
+    let mut t = s;
+    t.pins.c = true;
+    t.input = input;
     t
 }
 

@@ -10,6 +10,7 @@ use crate::quick::quick_bit;
 use crate::quick::quick_data;
 use crate::quick::quick_shift;
 use crate::quick::quick_still;
+use crate::quick::quick_whole;
 use crate::quick::sorted;
 use crate::trace::one;
 use chip::event::answer;
@@ -87,6 +88,12 @@ pub fn run_records(
             }
             Usual::Shift => {
                 t = quick_shift(row, t);
+                answers[n] = answer(t);
+                at = at + 5;
+                n = n + 1;
+            }
+            Usual::Whole => {
+                t = quick_whole(row, t);
                 answers[n] = answer(t);
                 at = at + 5;
                 n = n + 1;

@@ -3,7 +3,7 @@ use Prim.Native.Nat.{_+_}
 use native.Mathlib.Omega.{arith}
 use lib.Dec.{eqb}
 use Rattle.rules.specs.World.{number}
-use Rattle.traces.proofs.Short.{sorted-fall, sorted-rise, sorted-data, pin-is, data-byte, level-small}
+use Rattle.traces.proofs.Short.{sorted-fall, sorted-rise, sorted-data, pin-is, data-byte, data-small}
 use borrow.Author.Needs.{needs}
 use Rattle.traces.proofs.quick.sorted.Statement.{statement}
 use Rattle.traces.proofs.quick.sorted.Tie as tie
@@ -15,7 +15,7 @@ pin-byte-requires : tie.Need-pin-byte-requires
 pin-byte-requires c κs = search needs
 
 returns-2 : tie.Need-returns-2
-returns-2 c = sorted-data (c .before .before .before .before .args .row) (c .before .before .before .before .args .s) (c .before .before .before .before .args .trace .now) (c .before .before .before .before .args .at) (c .before .before .before .before .args .room) (c .before .before .if1 .left) (eqb (c .before .pin-byte .result) 3) (pin-is (c .before .pin-byte .result) (2 + number (eqb (c .before .pin-byte .result) 3)) (data-byte (c .before .pin-byte .result) (c .if2 .taken)) (level-small (eqb (c .before .pin-byte .result) 3)) (c .before .pin-byte .ensures))
+returns-2 c = sorted-data (c .before .before .before .before .args .row) (c .before .before .before .before .args .s) (c .before .before .before .before .args .trace .now) (c .before .before .before .before .args .at) (c .before .before .before .before .args .room) (c .before .before .if1 .left) (eqb (c .before .pin-byte .result) 3) (pin-is (c .before .pin-byte .result) (2 + number (eqb (c .before .pin-byte .result) 3)) (data-byte (c .before .pin-byte .result) (c .if2 .taken)) (data-small (eqb (c .before .pin-byte .result) 3)) (c .before .pin-byte .ensures))
 
 usual-fall-requires : tie.Need-usual-fall-requires
 usual-fall-requires c κs = search needs

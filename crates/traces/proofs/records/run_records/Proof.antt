@@ -13,8 +13,8 @@ use borrow.Author.Needs.{needs}
 use native.Mathlib.Omega.{arith}
 use mathlib.Core.Path.{refl, sym, ap}
 use Rattle.chip.proofs.Events.{data-alone}
-use Rattle.traces.proofs.Short.{known-way, bit-alone, still-alone, shift-alone}
-use Rattle.traces.proofs.Running.{Kept, ends-trace, ends-limit, ends-refused, one-more, goes-on, pin-on, data-pin, data-small}
+use Rattle.traces.proofs.Short.{data-small, known-way, bit-alone, still-alone, shift-alone, whole-alone}
+use Rattle.traces.proofs.Running.{Kept, ends-trace, ends-limit, ends-refused, one-more, goes-on, pin-on, data-pin}
 use Rattle.traces.proofs.records.run_records.Statement.{statement}
 use Rattle.traces.proofs.records.run_records.Tie as tie
 
@@ -170,6 +170,30 @@ loop-less-5 c = omega (arith, c .before .before .before .before .before .before 
 loop-again-5 : tie.Need-loop-again-5 Inv-loop μ-loop
 loop-again-5 c = let k = known-way (c .before .before .before .before .before .before .before .before .before .before .before .before .before .args .row) (c .before .before .before .before .before .before .before .loop .t) (c .before .before .before .before .before .before .before .before .before .before .before .before .before .args .trace .now) (c .before .before .before .before .before .before .before .loop .at) (ltb (c .before .before .before .before .before .before .before .loop .n) (length (c .before .before .before .before .before .before .before .loop .answers))) (c .before .before .before .before .sorted .result) Usual.Shift (c .before .before .enum-told4 .given .1) (c .before .before .before .before .sorted .ensures) in pin-on (c .before .before .before .before .before .before .before .before .before .before .before .before .before .args .row) (c .before .before .before .before .before .before .before .before .before .before .before .before .before .args .trace .now) (c .before .before .before .before .before .before .before .before .before .before .before .before .before .args .limit) _ _ (worldOf (c .before .before .before .before .before .before .before .loop .t) (c .before .before .before .before .before .before .before .loop .cells) (c .before .before .before .before .before .before .before .loop .identification) (c .before .before .before .before .before .before .before .loop .latch)) (c .before .before .before .before .before .before .before .loop .answers) (c .before .before .before .before .before .before .before .loop .at) (c .before .before .before .before .before .before .before .loop .n) (c .before .before .before .before .before .before .before .loop .inv) (c .before .before .before .before .before .before .before .before .before .before .before .before .before .pre .0) (c .before .before .before .before .before .if1 .left) (c .before .before .before .before .before .before .loop-test .taken) 0 (c .answer4 .result) (Event.Clock false) (worldOf (c .before .quick-shift .result) (c .before .before .before .before .before .before .before .loop .cells) (c .before .before .before .before .before .before .before .loop .identification) (c .before .before .before .before .before .before .before .loop .latch)) (k .1) (omega arith) refl refl (k .0) (shift-alone (c .before .before .before .before .before .before .before .before .before .before .before .before .before .args .row) (c .before .before .before .before .before .before .before .loop .t) (c .before .quick-shift .result) (c .before .before .before .before .before .before .before .loop .cells) (c .before .before .before .before .before .before .before .loop .identification) (c .before .before .before .before .before .before .before .loop .latch) (k .2 .0) (k .2 .1) (k .2 .2) (k .2 .3) (c .before .quick-shift .ensures)) (c .answer4 .ensures)
 
+enum-told-5 : tie.Need-enum-told-5 Inv-loop μ-loop
+enum-told-5 c = search needs
+
+quick-whole-requires : tie.Need-quick-whole-requires Inv-loop μ-loop
+quick-whole-requires c κs = let k = known-way (c .before .before .before .before .before .before .before .before .before .before .before .args .row) (c .before .before .before .before .before .loop .t) (c .before .before .before .before .before .before .before .before .before .before .before .args .trace .now) (c .before .before .before .before .before .loop .at) (ltb (c .before .before .before .before .before .loop .n) (length (c .before .before .before .before .before .loop .answers))) (c .before .before .sorted .result) Usual.Whole (c .enum-told5 .given .1) (c .before .before .sorted .ensures) in (c .before .before .before .before .before .loop .inv .sound .unsettled .input, k .2 .0, k .2 .1, k .2 .2, k .2 .3)
+
+answer-requires-5 : tie.Need-answer-requires-5 Inv-loop μ-loop
+answer-requires-5 c κs = search needs
+
+slice-write-answers-5 : tie.Need-slice-write-answers-5 Inv-loop μ-loop
+slice-write-answers-5 c = let k = known-way (c .before .before .before .before .before .before .before .before .before .before .before .before .before .args .row) (c .before .before .before .before .before .before .before .loop .t) (c .before .before .before .before .before .before .before .before .before .before .before .before .before .args .trace .now) (c .before .before .before .before .before .before .before .loop .at) (ltb (c .before .before .before .before .before .before .before .loop .n) (length (c .before .before .before .before .before .before .before .loop .answers))) (c .before .before .before .before .sorted .result) Usual.Whole (c .before .before .enum-told5 .given .1) (c .before .before .before .before .sorted .ensures) in ltb-true (c .before .before .before .before .before .before .before .loop .n) (length (c .before .before .before .before .before .before .before .loop .answers)) (k .0)
+
+add-at-5 : tie.Need-add-at-5 Inv-loop μ-loop
+add-at-5 c = let k = known-way (c .before .before .before .before .before .before .before .before .before .before .before .before .before .args .row) (c .before .before .before .before .before .before .before .loop .t) (c .before .before .before .before .before .before .before .before .before .before .before .before .before .args .trace .now) (c .before .before .before .before .before .before .before .loop .at) (ltb (c .before .before .before .before .before .before .before .loop .n) (length (c .before .before .before .before .before .before .before .loop .answers))) (c .before .before .before .before .sorted .result) Usual.Whole (c .before .before .enum-told5 .given .1) (c .before .before .before .before .sorted .ensures) in let w = k .1 .whole in omega (arith, w, c .before .before .before .before .before .if1 .left, c .before .before .before .before .before .before .before .before .before .before .before .before .before .good)
+
+add-n-5 : tie.Need-add-n-5 Inv-loop μ-loop
+add-n-5 c = omega (arith, c .before .before .before .before .before .before .loop-test .taken, c .before .before .before .before .before .before .before .before .before .before .before .before .before .fits .limit .fits)
+
+loop-less-6 : tie.Need-loop-less-6 Inv-loop μ-loop
+loop-less-6 c = omega (arith, c .before .before .before .before .before .before .loop-test .taken)
+
+loop-again-6 : tie.Need-loop-again-6 Inv-loop μ-loop
+loop-again-6 c = let k = known-way (c .before .before .before .before .before .before .before .before .before .before .before .before .before .args .row) (c .before .before .before .before .before .before .before .loop .t) (c .before .before .before .before .before .before .before .before .before .before .before .before .before .args .trace .now) (c .before .before .before .before .before .before .before .loop .at) (ltb (c .before .before .before .before .before .before .before .loop .n) (length (c .before .before .before .before .before .before .before .loop .answers))) (c .before .before .before .before .sorted .result) Usual.Whole (c .before .before .enum-told5 .given .1) (c .before .before .before .before .sorted .ensures) in pin-on (c .before .before .before .before .before .before .before .before .before .before .before .before .before .args .row) (c .before .before .before .before .before .before .before .before .before .before .before .before .before .args .trace .now) (c .before .before .before .before .before .before .before .before .before .before .before .before .before .args .limit) _ _ (worldOf (c .before .before .before .before .before .before .before .loop .t) (c .before .before .before .before .before .before .before .loop .cells) (c .before .before .before .before .before .before .before .loop .identification) (c .before .before .before .before .before .before .before .loop .latch)) (c .before .before .before .before .before .before .before .loop .answers) (c .before .before .before .before .before .before .before .loop .at) (c .before .before .before .before .before .before .before .loop .n) (c .before .before .before .before .before .before .before .loop .inv) (c .before .before .before .before .before .before .before .before .before .before .before .before .before .pre .0) (c .before .before .before .before .before .if1 .left) (c .before .before .before .before .before .before .loop-test .taken) 1 (c .answer5 .result) (Event.Clock true) (worldOf (c .before .quick-whole .result) (c .before .before .before .before .before .before .before .loop .cells) (c .before .before .before .before .before .before .before .loop .identification) (c .before .before .before .before .before .before .before .loop .latch)) (k .1) (omega arith) refl refl (k .0) (whole-alone (c .before .before .before .before .before .before .before .before .before .before .before .before .before .args .row) (c .before .before .before .before .before .before .before .loop .t) (c .before .quick-whole .result) (c .before .before .before .before .before .before .before .loop .cells) (c .before .before .before .before .before .before .before .loop .identification) (c .before .before .before .before .before .before .before .loop .latch) (k .2 .3) (c .before .quick-whole .ensures)) (c .answer5 .ensures)
+
 same-length-9 : tie.Need-same-length-9 Inv-loop μ-loop
 same-length-9 c = omega (arith, c .before .loop .inv .lent .cells, c .before .before .before .before .before .before .before .pre .2 .cells)
 
@@ -239,6 +263,14 @@ run-records-spec =
     add-n-4
     loop-less-5
     loop-again-5
+    enum-told-5
+    quick-whole-requires
+    answer-requires-5
+    slice-write-answers-5
+    add-at-5
+    add-n-5
+    loop-less-6
+    loop-again-6
     same-length-9
     same-length-10
     same-length-11

@@ -1,0 +1,14 @@
+-- `traces::quick::quick_whole` meets its contract.
+use Rattle.traces.proofs.Short.{whole-way}
+use borrow.Author.Needs.{needs}
+use Rattle.traces.proofs.quick.quick_whole.Statement.{statement}
+use Rattle.traces.proofs.quick.quick_whole.Tie as tie
+
+with-bit-requires : tie.Need-with-bit-requires
+with-bit-requires c κs = search needs
+
+returns : tie.Need-returns
+returns c = whole-way (c .before .before .args .row) (c .before .before .args .s) (c .before .with-bit .result) (c .before .before .pre .1) (c .before .before .pre .2) (c .before .before .pre .3) (c .before .before .pre .4) (c .before .with-bit .ensures)
+
+pub quick-whole-spec : {M : Type 1} → statement M
+quick-whole-spec = tie.close (tie.spec with-bit-requires returns)
