@@ -1,18 +1,21 @@
 /*
- * m95.h: the bench model of ST's small SPI memories for callers in C. Link libm95_c.a, which clients/build makes.
+ * m95.h: the bench model of ST's small SPI memories for callers in C. Link target/native/libm95_c.a, which clients/build makes.
  *
- * A device is its number: 1 M95040, 2 M95128, 3 M95M01, 4 M95M02. Its whole condition stands in four buffers, which the caller owns
- * and lends to each call, each as a pointer and its length in bytes:
+ * A device is its number: 1 M95040-DF, 2 M95128-D, 3 M95M01, 4 M95M02. Its whole condition stands in four buffers, which the caller
+ * owns and lends to each call, each as a pointer and its length in bytes:
  *
  *     state           M95_STATE_BYTES bytes, made by m95_prepare; what they mean is the library's business
  *     cells           m95_cells(device) bytes
  *     identification  m95_page(device) bytes
  *     latch           twice m95_page(device) bytes
  *
- * Any numbers, any lengths and any contents get a defined answer; a call that is refused says why by its number and leaves the buffers
- * as document 01, "Numbers given back", says. What no library can see is the caller's part: a pointer is never NULL and has as many
- * readable bytes as its length says (writable ones where it is not const), also where the length is 0, and no two buffers of a call
- * that it may write to overlap each other or any other buffer of that call.
+ * They may be copied, and saved and lent again later by a program with the same M95_STATE_BYTES. The library keeps nothing of its own
+ * between calls, so that threads may use it as long as none lends a buffer that another writes to.
+ *
+ * Any numbers, any lengths and any contents get a defined answer; a call that is refused says why by its number, and beside each call
+ * stands what it then leaves. What no library can see is the caller's part: a pointer is never NULL and has as many readable bytes as
+ * its length says (writable ones where it is not const), also where the length is 0; a pointer to a size_t is one; and what a call may
+ * write to, the size_t's included, overlaps nothing else that is lent to that call.
  */
 #ifndef M95_H
 #define M95_H
@@ -20,13 +23,20 @@
 #include <stddef.h>
 #include <stdint.h>
 
+#if SIZE_MAX < 0xFFFFFFFFFFFFFFFF
+#error "the library is for processors of 64 bits"
+#endif
+
 #ifdef __cplusplus
 extern "C" {
 #endif
 
 #define M95_STATE_BYTES 36
 
-/* The numbers that calls give back, in the order in which they are judged. */
+/*
+ * The numbers that calls give back. 1 to 5 are judged in this order; then for each record 6 for its first four bytes, 7, 8, 6 for the
+ * rest of it, 9, 10, 11. The number 12 is the bench program's and comes from no call.
+ */
 enum {
     M95_DONE = 0,
     M95_NO_DEVICE = 1,       /* the device is not 1 to 4 */
@@ -59,7 +69,7 @@ enum { M95_LOW = 0, M95_HIGH = 1, M95_Z = 2 };
 size_t m95_cells(size_t device);
 size_t m95_page(size_t device);
 
-/* What the buffers of a device are refused with by every call: 1 to 5, or 0. */
+/* What m95_event and m95_run refuse the buffers of a device with: 1 to 5, or 0. */
 size_t m95_refusal(size_t device,
                    const uint8_t *state, size_t state_length,
                    const uint8_t *cells, size_t cells_length,
@@ -67,8 +77,8 @@ size_t m95_refusal(size_t device,
                    const uint8_t *latch, size_t latch_length);
 
 /*
- * Prepares a device: 1 to 4, then 5 where the state's room is not M95_STATE_BYTES long, or 0. Refused with 1 to 4, a state's room of
- * that length holds the state of a prepared device 1 all the same, and the other buffers are as they were.
+ * Prepares a device: 1 to 4, then 5 where the state's room is not M95_STATE_BYTES long, or 0. Refused, it leaves the buffers as they
+ * were, but for one: refused with 1 to 4, a state's room of the right length is overwritten with the state of a prepared device.
  */
 size_t m95_prepare(size_t device,
                    uint8_t *state, size_t state_length,
@@ -85,9 +95,10 @@ size_t m95_event(size_t device,
                  size_t kind, size_t value, size_t *answer);
 
 /*
- * At most `limit` records of a trace: 1 to 5, then 6 to 11 for a record, or 0. Each record done has put one answer into `answers`;
- * `taken` is how many bytes of the trace the records took, and `done` how many they are. A refused record is not done, and those
- * before it are.
+ * At most `limit` records of a trace: 1 to 5, then 6 to 11 for a record, or 0 at the limit or the trace's end. Each record done has put
+ * one answer into `answers`, and the answers behind those are untouched; `taken` is how many bytes of the trace the records took, and
+ * `done` how many they are. Refused with 1 to 5, nothing changes and both are 0. A record that is refused is not done, and those before
+ * it are. To go on, call again with what is left: trace + taken, answers + done. A 6 there only says that more bytes must come.
  */
 size_t m95_run(size_t device,
                uint8_t *state, size_t state_length,
@@ -98,7 +109,10 @@ size_t m95_run(size_t device,
                uint8_t *answers, size_t answers_length,
                size_t limit, size_t *taken, size_t *done);
 
-/* The byte that RDSR would send: 0, or 5 (and a status of 0) for bytes that are no state. */
+/*
+ * Puts the byte that RDSR would send into `status`: 0, or 5 and a status of 0 for bytes that are no state. Soundness is not judged: of a
+ * state that m95_refusal gives 5 for, the status may be above 255.
+ */
 size_t m95_status_byte(const uint8_t *state, size_t state_length, size_t *status);
 
 /* The page of cells that holds an address, by its start in `cells` and its length: 1, 2, 13 (start and length 0), or 0. */

@@ -2,101 +2,7 @@
  * Calls everything that m95.h declares, as a program in C would, and holds the answers to document 01: its numbers in their order, the
  * examples that a caller can see, and buffers that a refused call must leave. Prints each expectation that fails, and a last line.
  */
-#include <stdio.h>
-#include <string.h>
-
-#include "m95.h"
-
-#define MOST_CELLS 262144
-#define MOST_PAGE 256
-
-struct chip {
-    size_t device;
-    uint8_t state[M95_STATE_BYTES];
-    uint8_t cells[MOST_CELLS];
-    uint8_t identification[MOST_PAGE];
-    uint8_t latch[2 * MOST_PAGE];
-};
-
-static struct chip chip, before;
-static size_t held, failed;
-
-static void expect(int holds, const char *what, size_t detail) {
-    if (holds) {
-        held++;
-        return;
-    }
-    failed++;
-    printf("calls: does not hold: %s (%zu)\n", what, detail);
-}
-
-/* Keeps the buffers of the chip, and tells whether they are as they were then. */
-static void note(void) {
-    memcpy(before.state, chip.state, sizeof chip.state);
-    memcpy(before.cells, chip.cells, m95_cells(chip.device));
-    memcpy(before.identification, chip.identification, m95_page(chip.device));
-    memcpy(before.latch, chip.latch, 2 * m95_page(chip.device));
-}
-
-static int is_as_before(void) {
-    return memcmp(before.state, chip.state, sizeof chip.state) == 0
-           && memcmp(before.cells, chip.cells, m95_cells(chip.device)) == 0
-           && memcmp(before.identification, chip.identification, m95_page(chip.device)) == 0
-           && memcmp(before.latch, chip.latch, 2 * m95_page(chip.device)) == 0;
-}
-
-/* The lent buffers of the chip, with its device's lengths. */
-#define LENT                                                                        \
-    chip.state, sizeof chip.state, chip.cells, m95_cells(chip.device),              \
-        chip.identification, m95_page(chip.device), chip.latch, 2 * m95_page(chip.device)
-
-static void prepare(size_t device) {
-    chip.device = device;
-    memset(chip.state, 0xA5, sizeof chip.state);
-    memset(chip.cells, 0xA5, m95_cells(device));
-    memset(chip.latch, 0xA5, 2 * m95_page(device));
-    expect(m95_prepare(device, LENT) == M95_DONE, "a device is prepared", device);
-    expect(m95_refusal(device, LENT) == M95_DONE, "a prepared device is not refused", device);
-}
-
-static size_t event(size_t kind, size_t value) {
-    size_t answer = 9;
-    size_t number = m95_event(chip.device, LENT, kind, value, &answer);
-    expect(number == M95_DONE, "an event is done", kind);
-    return answer;
-}
-
-static size_t set_pin(size_t pin, int is_high) { return event(M95_SET_PIN, pin + (is_high != 0)); }
-
-/* One bit in, and the bit that Q shows when C has fallen. */
-static size_t bit(int is_high) {
-    set_pin(M95_D, is_high);
-    set_pin(M95_C, 1);
-    return set_pin(M95_C, 0);
-}
-
-static void bits(unsigned value, int count) {
-    while (count-- > 0) {
-        bit(value >> count & 1);
-    }
-}
-
-/* A whole selection that only sends bytes to the device. */
-static void command(const uint8_t *bytes, size_t count) {
-    set_pin(M95_S, 0);
-    for (size_t i = 0; i < count; i++) {
-        bits(bytes[i], 8);
-    }
-    set_pin(M95_S, 1);
-}
-
-#define COMMAND(...) command((const uint8_t[]){__VA_ARGS__}, sizeof(uint8_t[]){__VA_ARGS__})
-
-static size_t status(void) {
-    size_t byte = 999;
-    expect(m95_status_byte(chip.state, sizeof chip.state, &byte) == M95_DONE, "the status is told", byte);
-    return byte;
-}
+#include "chip.h"
 
 static void sizes(void) {
     static const size_t cells[] = {0, 512, 16384, 131072, 262144, 0};
@@ -219,6 +125,62 @@ static void examples(void) {
     expect(lock == 0x01, "example 11", lock);
 }
 
+/* Example 12: W low keeps WRSR from being done, and WEL stays. */
+static void write_protect(void) {
+    prepare(2);
+    COMMAND(0x06);
+    COMMAND(0x01, 0xFF);
+    event(M95_WAIT, 5000);
+    expect(status() == 0x8C, "example 12, W high", status());
+    set_pin(M95_W, 0);
+    COMMAND(0x06);
+    COMMAND(0x01, 0x00);
+    event(M95_WAIT, 5000);
+    expect(status() == 0x8E, "example 12, W low", status());
+}
+
+/* Clocks while held do not count, and Q is Z. */
+static void hold(void) {
+    prepare(1);
+    set_pin(M95_S, 0);
+    bits(0x0, 4);
+    set_pin(M95_HOLD, 0);
+    bits(0xF, 4);
+    expect(bit(1) == M95_Z, "Q in hold", 0);
+    set_pin(M95_HOLD, 1);
+    bits(0x6, 4);
+    set_pin(M95_S, 1);
+    expect(status() == 0x02, "WREN across a hold", status());
+}
+
+static void put_pin(uint8_t *trace, size_t *length, int byte) {
+    const uint8_t record[] = {3, 0, M95_SET_PIN, 0, (uint8_t)byte};
+    memcpy(trace + *length, record, sizeof record);
+    *length += sizeof record;
+}
+
+/* RDSR as a trace on device 4: the answers after the falls of C are the status, its top bit first. */
+static void read_by_trace(void) {
+    uint8_t trace[256], answers[64];
+    size_t length = 0, taken, done, value = 0;
+    prepare(4);
+    expect(chip.identification[0] == 0x20 && chip.identification[1] == 0x00 && chip.identification[2] == 0x12, "code of device 4", 0);
+    expect(chip.identification[3] == 0xFF && chip.cells[0] == 0xFF && chip.latch[0] == 0, "a prepared device 4", 0);
+    COMMAND(0x06);
+    put_pin(trace, &length, M95_S);
+    for (int k = 0; k < 16; k++) {
+        put_pin(trace, &length, M95_D + (k < 8 && (0x05 >> (7 - k) & 1)));
+        put_pin(trace, &length, M95_C + 1);
+        put_pin(trace, &length, M95_C);
+    }
+    expect(m95_run(4, LENT, trace, length, answers, sizeof answers, sizeof answers, &taken, &done) == M95_DONE, "RDSR as a trace", 0);
+    expect(taken == length && done == 49, "all of it", done);
+    for (size_t k = 0; k < 8; k++) {
+        value = value << 1 | answers[24 + 3 * k];
+    }
+    expect(value == 0x02, "the status that it sends", value);
+}
+
 static void events(void) {
     size_t answer = 9;
     prepare(2);
@@ -270,21 +232,29 @@ static void traces(void) {
 
 static void pages(void) {
     size_t start = 9, length = 9;
-    prepare(1);
-    expect(m95_cell_page(1, chip.cells, 512, 40, &start, &length) == M95_DONE && start == 32 && length == 16, "a cell page", start);
-    expect(m95_cell_page(1, chip.cells, 512, 512, &start, &length) == M95_ADDRESS && start == 0 && length == 0, "past the cells", start);
-    expect(m95_cell_page(1, chip.cells, 511, 512, &start, &length) == M95_CELLS, "a cell page of wrong cells", start);
-    expect(m95_cell_page(9, chip.cells, 511, 512, &start, &length) == M95_NO_DEVICE, "a cell page of no device", start);
-    expect(m95_identification_page(1, chip.identification, 16, &length) == M95_DONE && length == 16, "the identification page", length);
-    expect(m95_identification_page(1, chip.identification, 17, &length) == M95_IDENTIFICATION && length == 0, "one of a wrong length", length);
-    expect(m95_identification_page(5, chip.identification, 17, &length) == M95_NO_DEVICE, "one of no device", length);
+    expect(m95_cell_page(1, chip.cells, 512, 40, &start, &length) == M95_DONE, "a cell page", 40);
+    expect(start == 32 && length == 16, "where it is", start);
+    expect(m95_cell_page(4, chip.cells, MOST_CELLS, MOST_CELLS - 1, &start, &length) == M95_DONE, "the last cell page", 4);
+    expect(start == MOST_CELLS - MOST_PAGE && length == MOST_PAGE, "where it is", start);
+    expect(m95_cell_page(1, chip.cells, 512, 512, &start, &length) == M95_ADDRESS, "past the cells", 512);
+    expect(start == 0 && length == 0, "no part of them", start);
+    expect(m95_cell_page(1, chip.cells, 511, 512, &start, &length) == M95_CELLS, "a cell page of wrong cells", 511);
+    expect(m95_cell_page(9, chip.cells, 511, 512, &start, &length) == M95_NO_DEVICE, "a cell page of no device", 9);
+    expect(m95_identification_page(1, chip.identification, 16, &length) == M95_DONE, "the identification page", 16);
+    expect(length == 16, "its length", length);
+    expect(m95_identification_page(1, chip.identification, 17, &length) == M95_IDENTIFICATION, "one of a wrong length", 17);
+    expect(length == 0, "no part of it", length);
+    expect(m95_identification_page(5, chip.identification, 17, &length) == M95_NO_DEVICE, "one of no device", 5);
 }
 
 static void statuses(void) {
     size_t byte = 9;
-    expect(m95_status_byte(chip.state, M95_STATE_BYTES - 1, &byte) == M95_STATE && byte == 0, "status of a short state", byte);
+    expect(m95_status_byte(chip.state, M95_STATE_BYTES - 1, &byte) == M95_STATE, "status of a short state", 35);
+    expect(byte == 0, "which is 0", byte);
     memset(chip.state, 0xFF, sizeof chip.state);
-    expect(m95_status_byte(chip.state, sizeof chip.state, &byte) == M95_STATE && byte == 0, "status of no state", byte);
+    byte = 9;
+    expect(m95_status_byte(chip.state, sizeof chip.state, &byte) == M95_STATE, "status of no state", 36);
+    expect(byte == 0, "which is 0", byte);
 }
 
 int main(void) {
@@ -292,6 +262,9 @@ int main(void) {
     refused_buffers();
     any_bytes();
     examples();
+    write_protect();
+    hold();
+    read_by_trace();
     events();
     traces();
     pages();

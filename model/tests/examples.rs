@@ -3,7 +3,7 @@
 mod common;
 
 use common::Board;
-use m95::Event;
+use m95_model::Event;
 
 #[test]
 fn example_1_wren_shows_in_the_status() {

@@ -1,7 +1,7 @@
 //! The named faults: each is wrong at its own place only. `sharpness` shows that it is wrong there.
 
-use m95::generate::{trace, Profile};
-use m95::{play, play_wrongly, Contents, Fault, DEVICES};
+use m95_model::generate::{trace, Profile};
+use m95_model::{play, play_wrongly, Contents, Fault, DEVICES};
 
 /// A fault whose place the trace never reaches must change nothing: the mistakes stand around the right model.
 #[test]

@@ -3,8 +3,8 @@
 mod common;
 
 use common::Board;
-use m95::generate::{events, records_of, tail, trace, Profile, Random, TAILS};
-use m95::{
+use m95_model::generate::{events, records_of, tail, trace, Profile, Random, TAILS};
+use m95_model::{
     device, is_sound, play, status_byte, Contents, Cycle, Device, Event, Instruction, Number,
     Output, State, DEVICES,
 };

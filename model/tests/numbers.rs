@@ -3,7 +3,7 @@
 mod common;
 
 use common::Board;
-use m95::{
+use m95_model::{
     append_record, cell_page, event, identification_page, prepare, run, Event, Number, Output, Ran,
     State,
 };

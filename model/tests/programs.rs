@@ -5,7 +5,7 @@ use std::io::Write;
 use std::path::{Path, PathBuf};
 use std::process::{Command, Output, Stdio};
 
-use m95::{append_record, Event};
+use m95_model::{append_record, Event};
 
 fn bench(input: &[u8]) -> String {
     let mut child = Command::new(env!("CARGO_BIN_EXE_bench"))

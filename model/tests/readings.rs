@@ -3,7 +3,7 @@
 mod common;
 
 use common::{Board, FALL, RISE};
-use m95::{is_sound, Cycle, Event, Instruction, Number, Output, State};
+use m95_model::{is_sound, Cycle, Event, Instruction, Number, Output, State};
 
 const HOLD_LOW: Event = Event::Hold(false);
 const HOLD_HIGH: Event = Event::Hold(true);
@@ -656,7 +656,7 @@ fn selected() -> State {
 
 #[test]
 fn soundness_is_the_list_of_document_01() {
-    let device = m95::device(1).expect("device 1");
+    let device = m95_model::device(1).expect("device 1");
     let marks = [0, 1].repeat(8);
     let sound = |state: &State| is_sound(device, state, &marks);
     let prepared = State::prepared;

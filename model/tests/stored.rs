@@ -4,8 +4,8 @@ use std::fs;
 use std::path::{Path, PathBuf};
 use std::process::Command;
 
-use m95::generate::Profile;
-use m95::{append_record, device, Event, Fault, Vector};
+use m95_model::generate::Profile;
+use m95_model::{append_record, device, Event, Fault, Vector};
 
 /// The files of `store` in a directory of the test's own.
 fn store(name: &str) -> PathBuf {

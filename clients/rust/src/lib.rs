@@ -4,6 +4,25 @@
 /// The bytes of a state.
 pub const STATE_BYTES: usize = 36;
 
+/// Kinds of events; what the value of each is stands beside it.
+pub mod kind {
+    /// The pin plus 0 for low or 1 for high.
+    pub const SET_PIN: usize = 1;
+    /// Microseconds.
+    pub const WAIT: usize = 2;
+    /// Not looked at.
+    pub const POWER_CYCLE: usize = 3;
+}
+
+/// The pins.
+pub mod pin {
+    pub const C: usize = 0;
+    pub const D: usize = 2;
+    pub const S: usize = 4;
+    pub const HOLD: usize = 6;
+    pub const W: usize = 8;
+}
+
 mod c {
     extern "C" {
         pub fn m95_cells(device: usize) -> usize;
@@ -88,7 +107,8 @@ pub struct Lent<'a> {
     pub latch: &'a mut [u8],
 }
 
-/// How a trace ended.
+/// How a trace ended: its number, the bytes that the records done took, and how many they are.
+#[must_use]
 #[derive(Clone, Copy, Debug, PartialEq, Eq)]
 pub struct Ran {
     pub number: usize,
@@ -108,7 +128,8 @@ pub fn page(device: usize) -> usize {
     unsafe { c::m95_page(device) }
 }
 
-/// What the buffers are refused with: 1 to 5, or 0.
+/// What `event` and `run` refuse the buffers with: 1 to 5, or 0.
+#[must_use]
 pub fn refusal(device: usize, lent: &Lent) -> usize {
     // SAFETY: each pointer is a slice's, with the slice's length, and nothing is written.
     unsafe {
@@ -126,7 +147,8 @@ pub fn refusal(device: usize, lent: &Lent) -> usize {
     }
 }
 
-/// Prepares a device.
+/// Prepares a device: 1 to 4, 5 for a state's room of a wrong length, or 0. Refused with 1 to 4 it puts the prepared state all the same.
+#[must_use]
 pub fn prepare(device: usize, lent: &mut Lent) -> usize {
     // SAFETY: each pointer is a slice's, with the slice's length, and the slices are lent for writing, so that none overlap.
     unsafe {
@@ -144,7 +166,8 @@ pub fn prepare(device: usize, lent: &mut Lent) -> usize {
     }
 }
 
-/// One event, by its kind and its value: its number, and how it answers.
+/// One event, by its kind and its value: its number, and how it answers (0, 1, or 2 for Z).
+#[must_use]
 pub fn event(device: usize, lent: &mut Lent, kind: usize, value: usize) -> (usize, usize) {
     let mut answer = 0;
     // SAFETY: as for `prepare`; the answer is a local number.
@@ -198,7 +221,8 @@ pub fn run(device: usize, lent: &mut Lent, trace: &[u8], answers: &mut [u8], lim
     }
 }
 
-/// The byte that RDSR would send, or the number 5.
+/// The byte that RDSR would send, or the number 5 for bytes that are no state. Soundness is not judged: of a state that `refusal` gives 5
+/// for, the status may be above 255.
 pub fn status_byte(state: &[u8]) -> Result<usize, usize> {
     let mut status = 0;
     // SAFETY: the pointer is a slice's, with the slice's length; the status is a local number.

@@ -1,9 +1,9 @@
 //! The wrapper's calls beside the second model's: generated traces of every profile whole, in pieces and event by event, the numbers
 //! of lent buffers, the pages, and states of any bytes. Nothing is expected of either but what the other says.
 
-use m95::generate::{events, trace_with_tail, Profile, Random, TAILS};
-use m95::{Device, Event, Output, State, DEVICES};
-use proved::{Lent, STATE_BYTES};
+use m95_model::generate::{events, trace_with_tail, Profile, Random, TAILS};
+use m95_model::{Device, Event, Output, State, DEVICES};
+use proved::{kind, pin, Lent, STATE_BYTES};
 
 /// A device's buffers, for one of the two.
 #[derive(Clone, PartialEq)]
@@ -43,7 +43,7 @@ impl Buffers {
 fn prepared(device: usize) -> (Buffers, Buffers, State) {
     let (mut ours, mut model) = (Buffers::new(device), Buffers::new(device));
     assert_eq!(proved::prepare(device, &mut ours.lent()), 0);
-    let (number, state) = m95::prepare(
+    let (number, state) = m95_model::prepare(
         device as u8,
         &mut model.cells,
         &mut model.identification,
@@ -81,7 +81,7 @@ fn run_both(device: usize, trace: &[u8], limit: usize, room: usize) {
             &mut answers[from..],
             limit,
         );
-        let other = m95::run(
+        let other = m95_model::run(
             device as u8,
             &mut state,
             &mut model.cells,
@@ -94,7 +94,7 @@ fn run_both(device: usize, trace: &[u8], limit: usize, room: usize) {
         let told = (other.number as usize, other.taken, other.done);
         assert_eq!((ran.number, ran.taken, ran.done), told);
         assert!(ours.stored() == model.stored() && answers == others);
-        let status = m95::status_byte(&state);
+        let status = m95_model::status_byte(&state);
         assert_eq!(proved::status_byte(&ours.state), Ok(usize::from(status)));
         at += ran.taken;
         from += ran.done;
@@ -131,14 +131,15 @@ fn every_tail() {
 
 /// An event as its kind and its value.
 fn numbers_of(event: Event) -> (usize, usize) {
+    let pin = |pin: usize, level: bool| (kind::SET_PIN, pin + usize::from(level));
     match event {
-        Event::Clock(level) => (1, usize::from(level)),
-        Event::Data(level) => (1, 2 + usize::from(level)),
-        Event::Select(level) => (1, 4 + usize::from(level)),
-        Event::Hold(level) => (1, 6 + usize::from(level)),
-        Event::Protect(level) => (1, 8 + usize::from(level)),
-        Event::Wait(microseconds) => (2, microseconds as usize),
-        Event::Power => (3, 0),
+        Event::Clock(level) => pin(pin::C, level),
+        Event::Data(level) => pin(pin::D, level),
+        Event::Select(level) => pin(pin::S, level),
+        Event::Hold(level) => pin(pin::HOLD, level),
+        Event::Protect(level) => pin(pin::W, level),
+        Event::Wait(microseconds) => (kind::WAIT, microseconds as usize),
+        Event::Power => (kind::POWER_CYCLE, 0),
     }
 }
 
@@ -152,7 +153,7 @@ fn event_both(
 ) {
     let (kind, value) = numbers_of(event);
     let (number, answer) = proved::event(usize::from(row.number), &mut ours.lent(), kind, value);
-    let (other, output) = m95::event(
+    let (other, output) = m95_model::event(
         row.number,
         state,
         &mut model.cells,
@@ -170,7 +171,7 @@ fn event_by_event() {
         let (mut ours, mut model, mut state) = prepared(usize::from(row.number));
         for event in events(Profile::Mixed, row, 5, 3_000) {
             event_both(row, &mut ours, &mut model, &mut state, event);
-            let is_busy = m95::status_byte(&state) & 1 == 1;
+            let is_busy = m95_model::status_byte(&state) & 1 == 1;
             if is_busy {
                 event_both(row, &mut ours, &mut model, &mut state, Event::Power);
             }
@@ -191,7 +192,7 @@ fn kinds_and_values_that_are_no_event() {
     }
     for value in [10, 255, 256, 1 << 32, usize::MAX] {
         assert_eq!(
-            proved::event(2, &mut ours.lent(), 1, value),
+            proved::event(2, &mut ours.lent(), kind::SET_PIN, value),
             (9, Output::Z as usize)
         );
     }
@@ -209,7 +210,8 @@ fn lengths_of_lent_buffers() {
                 for latch in lengths(2 * row.page) {
                     let (mut cells, mut page, mut latch) =
                         (vec![7; cells], vec![7; page], vec![0; latch]);
-                    let (number, _) = m95::prepare(device as u8, &mut cells, &mut page, &mut latch);
+                    let (number, _) =
+                        m95_model::prepare(device as u8, &mut cells, &mut page, &mut latch);
                     for room in lengths(STATE_BYTES) {
                         let mut buffers = Buffers {
                             state: vec![9; room],
@@ -246,7 +248,7 @@ fn states_of_any_bytes() {
         }
         let before = buffers.clone();
         let refusal = proved::refusal(3, &buffers.lent());
-        let (number, _) = proved::event(3, &mut buffers.lent(), 2, 1);
+        let (number, _) = proved::event(3, &mut buffers.lent(), kind::WAIT, 1);
         assert_eq!(number, refusal);
         match refusal {
             0 => {
@@ -276,7 +278,7 @@ fn pages_are_the_models() {
             row.cells,
             usize::MAX,
         ] {
-            let (number, page) = m95::cell_page(row.number, &cells, address);
+            let (number, page) = m95_model::cell_page(row.number, &cells, address);
             let expected = if number as usize == 0 {
                 Ok(page)
             } else {

@@ -113,9 +113,16 @@ fn judges() {
     check::expect(none == 1);
 }
 
+// The status of a prepared device is 0.
+fn tells_status() {
+    let status = m95::status_byte(m95::prepared_state());
+    check::expect(status == 0);
+}
+
 fn main() {
     prepares();
     judges();
+    tells_status();
     shows_cell_page();
     shows_identification_page();
     replies();

@@ -4,7 +4,7 @@
 use std::io::{self, Read, Write};
 use std::process::ExitCode;
 
-use m95::{bench, BENCH_INPUT};
+use m95_model::{bench, BENCH_INPUT};
 
 fn main() -> ExitCode {
     match bench_standard_input() {

@@ -6,8 +6,8 @@
 use std::path::PathBuf;
 use std::process::ExitCode;
 
-use m95::compare::{compare, Order, Outcome};
-use m95::generate::Profile;
+use m95_model::compare::{compare, Order, Outcome};
+use m95_model::generate::Profile;
 
 const USE: &str =
     "use: compare --play \"COMMAND\" --bench \"COMMAND\" [--seed S] [--records N] [--keep DIR]";

@@ -3,8 +3,8 @@
 use std::io::{self, Write};
 use std::process::ExitCode;
 
-use m95::device;
-use m95::generate::{trace, Profile};
+use m95_model::device;
+use m95_model::generate::{trace, Profile};
 
 fn main() -> ExitCode {
     let arguments: Vec<String> = std::env::args().skip(1).collect();

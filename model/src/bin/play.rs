@@ -6,7 +6,7 @@
 
 use std::process::ExitCode;
 
-use m95::{play_files, Fault};
+use m95_model::{play_files, Fault};
 
 fn main() -> ExitCode {
     let arguments: Result<Vec<String>, _> = std::env::args_os()

@@ -3,8 +3,8 @@
 use std::process::ExitCode;
 use std::time::{Duration, Instant};
 
-use m95::generate::{events, records_of, Profile};
-use m95::{prepare, run, Device, Number, DEVICES};
+use m95_model::generate::{events, records_of, Profile};
+use m95_model::{prepare, run, Device, Number, DEVICES};
 
 const RECORDS: usize = 1_000_000;
 const REPEATS: u32 = 10;

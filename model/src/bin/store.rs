@@ -5,8 +5,8 @@ use std::fs;
 use std::path::Path;
 use std::process::ExitCode;
 
-use m95::generate::{made_events, records_of, short_events, tail, Profile, TAILS};
-use m95::{Device, Fault, Vector, DEVICES};
+use m95_model::generate::{made_events, records_of, short_events, tail, Profile, TAILS};
+use m95_model::{Device, Fault, Vector, DEVICES};
 
 /// Records of a trace, at most.
 const RECORDS: usize = 400;

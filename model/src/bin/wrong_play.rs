@@ -3,7 +3,7 @@
 
 use std::process::ExitCode;
 
-use m95::{play_files, Fault};
+use m95_model::{play_files, Fault};
 
 fn main() -> ExitCode {
     let arguments: Vec<String> = std::env::args().skip(1).collect();

@@ -2,7 +2,9 @@
 //! must leave a sound state, so each test checks that too.
 #![allow(dead_code)] // each test file is its own crate and uses a part of the board
 
-use m95::{device, event, is_sound, prepare, status_byte, Device, Event, Number, Output, State};
+use m95_model::{
+    device, event, is_sound, prepare, status_byte, Device, Event, Number, Output, State,
+};
 
 pub struct Board {
     pub device: &'static Device,

@@ -10,10 +10,10 @@ mod stored;
 use std::process::ExitCode;
 use std::rc::Rc;
 
-use m95::generate::{
+use m95_model::generate::{
     bench_input, odd_bench_input, trace_with_tail, Profile, Random, ODD_BENCH_INPUTS, TAILS,
 };
-use m95::{bench, bench_wrongly, play_wrongly, Contents, Device, Fault, Played, DEVICES};
+use m95_model::{bench, bench_wrongly, play_wrongly, Contents, Device, Fault, Played, DEVICES};
 
 const RECORDS: usize = 3_000;
 /// A malformed trace is about its end, so it may be short.

@@ -3,8 +3,8 @@
 use std::fs;
 use std::path::Path;
 
-use m95::generate::Profile;
-use m95::{Fault, Vector};
+use m95_model::generate::Profile;
+use m95_model::{Fault, Vector};
 
 const LATCH: &str = "only the latch shows it, which a vector does not hold";
 const ROOM: &str = "only a full room for answers shows it, which a vector never has";

@@ -1,11 +1,11 @@
 //! `benchmark [RECORDS]`: the same traces through the proved library and through the plain Rust model, in turns in one run: records a
-//! second of each, their ratio, and the library against the real bus. Traces grow tenfold from 1,000 records to RECORDS (ten million
-//! where none is said). The shortest time of several turns counts; answers and cells of both must be equal.
+//! second of each, their ratio, and the library against the real bus. Traces grow tenfold from 1,000 records as long as they have at most
+//! RECORDS (ten million where none is said). The shortest time of several turns counts; answers and cells of both must be equal.
 
 use std::process::ExitCode;
 use std::time::{Duration, Instant};
 
-use m95::{append_record, Event};
+use m95_model::{append_record, Event};
 use proved::{Lent, STATE_BYTES};
 
 /// 20 million bits a second, each of three records: D set, C up, C down.
@@ -24,10 +24,11 @@ enum Kind {
 }
 
 fn main() -> ExitCode {
-    let largest = match std::env::args().nth(1).map(|text| text.parse()) {
-        None => LARGEST,
-        Some(Ok(records)) if records >= SMALLEST => records,
-        Some(_) => {
+    let words: Vec<String> = std::env::args().skip(1).collect();
+    let largest = match (words.len(), words.first().map(|text| text.parse())) {
+        (0, _) => LARGEST,
+        (1, Some(Ok(records))) if records >= SMALLEST => records,
+        _ => {
             eprintln!(
                 "benchmark: it takes a number of records, at least {SMALLEST}: benchmark [RECORDS]"
             );
@@ -121,9 +122,9 @@ impl Bench {
         let number = device as u8;
         let (cells, identification, latch) =
             (&mut self.cells, &mut self.identification, &mut self.latch);
-        let (_, mut state) = m95::prepare(number, cells, identification, latch);
+        let (_, mut state) = m95_model::prepare(number, cells, identification, latch);
         let start = Instant::now();
-        let ran = m95::run(
+        let ran = m95_model::run(
             number,
             &mut state,
             cells,
@@ -136,7 +137,7 @@ impl Bench {
         let time = start.elapsed();
         assert_eq!(
             (ran.number, ran.done),
-            (m95::Number::Done, self.answers.len())
+            (m95_model::Number::Done, self.answers.len())
         );
         time
     }
