@@ -9,8 +9,8 @@
  *     identification  m95_page(device) bytes
  *     latch           twice m95_page(device) bytes
  *
- * They may be copied, and saved and lent again later by a program with the same M95_STATE_BYTES. The library keeps nothing of its own
- * between calls, so that threads may use it as long as none lends a buffer that another writes to.
+ * They may be copied, and saved and lent again later to the same version of the library. It keeps nothing of its own between calls, so
+ * that threads may use it as long as none lends a buffer that another writes to.
  *
  * Any numbers, any lengths and any contents get a defined answer; a call that is refused says why by its number, and beside each call
  * stands what it then leaves. What no library can see is the caller's part: a pointer is never NULL and has as many readable bytes as
