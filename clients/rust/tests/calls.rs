@@ -109,7 +109,7 @@ fn traces_of_every_profile() {
     for row in &DEVICES {
         for profile in Profile::ALL {
             for seed in 1..=3 {
-                let trace = trace_with_tail(profile, row, seed, 3_000, seed as usize % TAILS);
+                let trace = trace_with_tail(profile, row, seed, 20_000, seed as usize % TAILS);
                 let device = usize::from(row.number);
                 run_both(device, &trace, usize::MAX, trace.len());
                 run_both(device, &trace, 257, trace.len());

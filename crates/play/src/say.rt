@@ -27,7 +27,7 @@ pub fn is_faulty(fault: Fault, path: &[u8]) -> bool {
         }
         Fault::Unread => fail(b"play: cannot read the chip ", path),
         Fault::Length => complain(
-            b"play: CHIP has neither the length of the cells nor that of cells, identification page, status and lock\n",
+            b"play: CHIP's length is not the device's: its cells, or these with identification page, status and lock: 512 or 530 bytes for device 1, 16384 or 16450 for 2, 131072 or 131330 for 3, 262144 or 262402 for 4\n",
         ),
         Fault::Status => complain(b"play: CHIP's status byte has bits that the device has not\n"),
         Fault::Lock => complain(b"play: CHIP's lock byte is neither 0 nor 1\n"),
