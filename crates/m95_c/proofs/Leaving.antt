@@ -1,9 +1,8 @@
 -- What each call for C leaves, one law for each way through the rules.
 use Prim.Native.Nat.{ℕ, _-_, _%_, _≤_, _<_, min}
-use mathlib.Core.Path.{_≡_, refl, sym, ap, _∙_, subst}
+use mathlib.Core.Path.{_≡_, sym, ap, _∙_, subst}
 use mathlib.Core.Bool.{Bool, true, false, not, _&&_}
 use mathlib.Core.List.{List}
-use native.Mathlib.Nat.{mod-le, min-eq-left, min-eq-right}
 use native.Mathlib.Omega.{arith}
 use lib.Dec.{eqb, ltb}
 use lib.ListN.{length}
@@ -20,7 +19,7 @@ use Rattle.rules.specs.Call.{worldRefusal, prepareOutcome, eventOutcome, runOut
 use Rattle.rules.proofs.Choice.{if-elim}
 use Rattle.m95.proofs.Calling.{fine}
 use Rattle.m95_c.proofs.Packing.{state-length}
-use Rattle.m95_c.specs.StateBytes.{isState, stateOf, stateAt, noState, bytesOf}
+use Rattle.m95_c.specs.StateBytes.{isState, stateOf, noState, bytesOf}
 use Rattle.m95_c.specs.Left.{deviceOf, cellsOf, pageOf, Buffers, buffersOf, preparedAs, prepareLeft, eventRefusal, eventOf, repliedAs, eventLeft, ranAs, runLeft, toldAs, statusLeft, placedAs, cellPageLeft, identificationPageLeft}
 
 pub device-small : (n : ℕ) → n ≤ 255 → n ≡ deviceOf n

@@ -1,29 +1,26 @@
 -- What the bytes of a state and the places of a page are worth: what was put is read back (`read-back`), bytes that are no state get 5 (`no-state-refused`), the place of a page is the page that the library shows (`page-shown`).
 use Prim.Native.Nat.{ℕ, zero, suc, _+_, _-_, _*_, _/_, _%_, _^_, _≤_, _<_}
-use mathlib.Core.Path.{_≡_, refl, sym, ap, _∙_, subst}
-use mathlib.Core.Bool.{Bool, true, false, not, _&&_}
+use mathlib.Core.Path.{_≡_, refl}
+use mathlib.Core.Bool.{Bool, true, false, not}
 use mathlib.Core.List.{List, []}
 use native.Mathlib.Nat.{mod-eq-of-lt}
 use native.Mathlib.Omega.{arith}
 use lib.Dec.{eqb, leb}
 use lib.ListN.{getD, take, drop}
-use borrow.Author.Tests.{le-leb}
 use Rattle.rules.specs.declared.Instruction.{Instruction}
 use Rattle.rules.specs.declared.Kind.{Kind}
 use Rattle.rules.specs.declared.Level.{Level}
-use Rattle.rules.specs.declared.Place.{Place}
 use Rattle.rules.specs.declared.State.{State}
 use Rattle.rules.specs.World.{if_then_else_, World, number}
 use Rattle.rules.specs.Device.{m95040, table, rowOf}
 use Rattle.rules.specs.Sound.{isSound, clauses}
 use Rattle.rules.specs.Instruction.{changes}
-use Rattle.rules.specs.Trace.{four, answerByte}
+use Rattle.rules.specs.Trace.{answerByte}
 use Rattle.rules.specs.Call.{lentRefusal, worldRefusal, cellPageOutcome}
-use Rattle.rules.proofs.Choice.{if-elim}
 use Rattle.rules.proofs.Widths.{of-device}
 use Rattle.bits.proofs.Masks.{cells-fit}
 use Rattle.m95.proofs.Calling.{fine}
-use Rattle.m95_c.specs.StateBytes.{instructions, levels, kinds, isState, stateAt, stateOf, byteOf, fourBytes, instructionNumber, kindNumber, bytesOf}
+use Rattle.m95_c.specs.StateBytes.{instructions, levels, kinds, isState, stateAt, stateOf, byteOf, instructionNumber, kindNumber, bytesOf}
 use Rattle.m95_c.specs.Left.{deviceOf, Buffers, buffersRefusal, placedAs, cellPageLeft}
 
 -- Each part is read back.

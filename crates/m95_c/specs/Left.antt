@@ -1,7 +1,6 @@
 -- What each call for C leaves: its number and everything lent to it, as one function of what it was given.
 use Rattle.rules.specs.World.{ℕ, _-_, _%_, not, _&&_, List, length, eqb, leb, ltb, min, if_then_else_, World, worldOf}
 use Rattle.rules.specs.declared.Event.{Event}
-use Rattle.rules.specs.declared.State.{State}
 use Rattle.rules.specs.Device.{isDevice, rowOf}
 use Rattle.rules.specs.Send.{statusByte}
 use Rattle.rules.specs.Trace.{lengthOf, pinEvent}

@@ -2,7 +2,7 @@
 // nothing sent, C falls within a byte. Each is the rules' own step under what `sorted` has found. Everything else takes the full turn.
 
 ghost use mathlib.Core.Path.{_≡_};
-ghost use mathlib.Core.Bool.{Bool, true, false, not, _&&_};
+ghost use mathlib.Core.Bool.{true, false, not, _&&_};
 ghost use Prim.Native.Nat.{_+_, _≤_, _<_};
 ghost use lib.ListN.{length};
 ghost use Rattle.rules.specs.Device.{Widths};
