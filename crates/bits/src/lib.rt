@@ -2,7 +2,7 @@
 // arithmetic of the rules by a law over the width (proofs/Masks.antt).
 
 ghost use mathlib.Core.Path.{_≡_};
-ghost use Prim.Native.Nat.{ℕ, _+_, _-_, _*_, _/_, _%_, _^_, _≤_, _<_};
+ghost use Prim.Native.Nat.{_+_, _-_, _*_, _/_, _%_, _<_};
 ghost use Rattle.rules.specs.World.{bit, number};
 ghost use Rattle.rules.specs.Device.{Widths};
 ghost use Rattle.rules.specs.Instruction.{longer};

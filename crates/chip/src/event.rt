@@ -4,7 +4,7 @@ ghost use mathlib.Core.Path.{_≡_};
 ghost use mathlib.Core.Bool.{true, false};
 ghost use Rattle.rules.specs.World.{worldOf};
 ghost use Rattle.rules.specs.Device.{Widths};
-ghost use Rattle.rules.specs.Event.{selected, deselected, sawLow, powered, decodes, settled, step, refusal, answer};
+ghost use Rattle.rules.specs.Event.{selected, deselected, decodes, settled, step, refusal, answer};
 ghost use Rattle.rules.specs.Trace.{answerByte};
 ghost use Rattle.rules.specs.Sound.{Sound, Lent};
 ghost use Rattle.chip.specs.Alone.{stepAlone};

@@ -2,7 +2,6 @@
 // and the whole contents of every lent buffer as one function of the input: the outcomes of rules/specs/Call.antt.
 
 ghost use mathlib.Core.Path.{_≡_};
-ghost use mathlib.Core.List.{[]};
 ghost use Rattle.rules.specs.World.{worldOf};
 ghost use Rattle.rules.specs.Device.{preparedState};
 ghost use Rattle.rules.specs.Send.{statusByte};

@@ -1,7 +1,7 @@
 // Records: reading one, judging it, and doing it. `quick` has the short ways for the commonest ones.
 
 ghost use mathlib.Core.Path.{_≡_};
-ghost use mathlib.Core.Bool.{Bool, true, false};
+ghost use mathlib.Core.Bool.{false};
 ghost use Prim.Native.Nat.{_+_, _≤_, _<_};
 ghost use lib.ListN.{length};
 ghost use Rattle.rules.specs.World.{worldOf};

@@ -4,7 +4,6 @@ mod compare;
 mod vector;
 
 use compare::Tally;
-use libc::STDERR_FILENO;
 use libc::STDOUT_FILENO;
 
 // Prints a line: a name, how many vectors were run, and how many differ.

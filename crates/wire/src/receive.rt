@@ -1,15 +1,14 @@
 // C rises: one bit more of a byte; what a whole byte does to the command, the address and the latch.
 
 ghost use mathlib.Core.Path.{_≡_};
-ghost use Prim.Native.Nat.{_+_, _*_, _≤_, _<_, min};
+ghost use Prim.Native.Nat.{_+_, _*_, _<_, min};
 ghost use lib.ListN.{length};
-ghost use Rattle.rules.specs.World.{number, if_then_else_};
+ghost use Rattle.rules.specs.World.{number};
 ghost use Rattle.rules.specs.Device.{Widths};
 ghost use Rattle.rules.specs.Instruction.{facts, busy, holdsLatch, commandBytes, startAddress, decode, lockBit};
 ghost use Rattle.rules.specs.Receive.{isAddress, isLast, isLatched, commandAfter, addressAfter, clears, marked, latchAfter, inputAfter, risen, risenLatch};
 ghost use Rattle.rules.specs.Sound.{SoundInput};
 use rules::Command;
-use rules::Facts;
 use rules::Input;
 use rules::Instruction;
 use rules::Kind;

@@ -1,13 +1,12 @@
 // S rises: whether the command is done, and what a done one sets or starts.
 
 ghost use mathlib.Core.Path.{_≡_};
-ghost use Prim.Native.Nat.{_≤_, _<_};
+ghost use Prim.Native.Nat.{_<_};
 ghost use Rattle.rules.specs.Device.{Widths};
 ghost use Rattle.rules.specs.World.{if_then_else_};
 ghost use Rattle.rules.specs.Judge.{storable, blocks, isProtected, isShut, allows, isDone, startOf, judged};
 use rules::Cycle;
 use rules::Kind;
-use rules::Registers;
 use rules::Row;
 use rules::State;
 
