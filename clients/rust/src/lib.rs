@@ -99,6 +99,24 @@ mod c {
     }
 }
 
+/// A call on a device's four buffers, each as its pointer, got by `$pointer`, and its length; what more the call takes comes after them.
+macro_rules! lend {
+    ($call:ident, $pointer:ident, $device:expr, $lent:expr $(, $more:expr)*) => {
+        c::$call(
+            $device,
+            $lent.state.$pointer(),
+            $lent.state.len(),
+            $lent.cells.$pointer(),
+            $lent.cells.len(),
+            $lent.identification.$pointer(),
+            $lent.identification.len(),
+            $lent.latch.$pointer(),
+            $lent.latch.len()
+            $(, $more)*
+        )
+    };
+}
+
 /// A device's four buffers, lent to a call.
 pub struct Lent<'a> {
     pub state: &'a mut [u8],
@@ -132,38 +150,14 @@ pub fn page(device: usize) -> usize {
 #[must_use]
 pub fn refusal(device: usize, lent: &Lent) -> usize {
     // SAFETY: each pointer is a slice's, with the slice's length, and nothing is written.
-    unsafe {
-        c::m95_refusal(
-            device,
-            lent.state.as_ptr(),
-            lent.state.len(),
-            lent.cells.as_ptr(),
-            lent.cells.len(),
-            lent.identification.as_ptr(),
-            lent.identification.len(),
-            lent.latch.as_ptr(),
-            lent.latch.len(),
-        )
-    }
+    unsafe { lend!(m95_refusal, as_ptr, device, lent) }
 }
 
 /// Prepares a device: 1 to 4, 5 for a state's room of a wrong length, or 0. Refused with 1 to 4 it puts the prepared state all the same.
 #[must_use]
 pub fn prepare(device: usize, lent: &mut Lent) -> usize {
     // SAFETY: each pointer is a slice's, with the slice's length, and the slices are lent for writing, so that none overlap.
-    unsafe {
-        c::m95_prepare(
-            device,
-            lent.state.as_mut_ptr(),
-            lent.state.len(),
-            lent.cells.as_mut_ptr(),
-            lent.cells.len(),
-            lent.identification.as_mut_ptr(),
-            lent.identification.len(),
-            lent.latch.as_mut_ptr(),
-            lent.latch.len(),
-        )
-    }
+    unsafe { lend!(m95_prepare, as_mut_ptr, device, lent) }
 }
 
 /// One event, by its kind and its value: its number, and how it answers (0, 1, or 2 for Z).
@@ -172,19 +166,14 @@ pub fn event(device: usize, lent: &mut Lent, kind: usize, value: usize) -> (usiz
     let mut answer = 0;
     // SAFETY: as for `prepare`; the answer is a local number.
     let number = unsafe {
-        c::m95_event(
+        lend!(
+            m95_event,
+            as_mut_ptr,
             device,
-            lent.state.as_mut_ptr(),
-            lent.state.len(),
-            lent.cells.as_mut_ptr(),
-            lent.cells.len(),
-            lent.identification.as_mut_ptr(),
-            lent.identification.len(),
-            lent.latch.as_mut_ptr(),
-            lent.latch.len(),
+            lent,
             kind,
             value,
-            &mut answer,
+            &mut answer
         )
     };
     (number, answer)
@@ -195,23 +184,18 @@ pub fn run(device: usize, lent: &mut Lent, trace: &[u8], answers: &mut [u8], lim
     let (mut taken, mut done) = (0, 0);
     // SAFETY: as for `prepare`; the trace is only read, and the answers are lent for writing too.
     let number = unsafe {
-        c::m95_run(
+        lend!(
+            m95_run,
+            as_mut_ptr,
             device,
-            lent.state.as_mut_ptr(),
-            lent.state.len(),
-            lent.cells.as_mut_ptr(),
-            lent.cells.len(),
-            lent.identification.as_mut_ptr(),
-            lent.identification.len(),
-            lent.latch.as_mut_ptr(),
-            lent.latch.len(),
+            lent,
             trace.as_ptr(),
             trace.len(),
             answers.as_mut_ptr(),
             answers.len(),
             limit,
             &mut taken,
-            &mut done,
+            &mut done
         )
     };
     Ran {

@@ -20,7 +20,7 @@ use Rattle.rules.proofs.Choice.{if-elim}
 use Rattle.m95.proofs.Calling.{fine}
 use Rattle.m95_c.proofs.Packing.{state-length}
 use Rattle.m95_c.specs.StateBytes.{isState, stateOf, noState, bytesOf}
-use Rattle.m95_c.specs.Left.{deviceOf, cellsOf, pageOf, Buffers, buffersOf, preparedAs, prepareLeft, eventRefusal, eventOf, repliedAs, eventLeft, ranAs, runLeft, toldAs, statusLeft, placedAs, cellPageLeft, identificationPageLeft}
+use Rattle.m95_c.specs.Left.{deviceOf, sizesAs, sizesOf, Buffers, buffersOf, preparedAs, prepareLeft, eventRefusal, eventOf, repliedAs, eventLeft, ranAs, runLeft, toldAs, statusLeft, placedAs, cellPageLeft, identificationPageLeft}
 
 pub device-small : (n : ℕ) → n ≤ 255 → n ≡ deviceOf n
 device-small n h = rw (le-leb n 255 h)
@@ -30,17 +30,11 @@ device-large n h = rw (lt-leb n 255 h)
 
 -- The sizes.
 module _ (n d : ℕ) (ed : d ≡ deviceOf n) (row : Row) (er : row ≡ rowOf d) (t : Bool) (et : t ≡ isDevice d) where
-  pub cells-told : t ≡ true → row .cells ≡ cellsOf n
-  cells-told h = rw (← ed, ← et, h, er)
+  pub sizes-told : t ≡ true → sizesAs (row .cells) (row .page) ≡ sizesOf n
+  sizes-told h = rw (← ed, ← et, h, er)
 
-  pub page-told : t ≡ true → row .page ≡ pageOf n
-  page-told h = rw (← ed, ← et, h, er)
-
-  pub cells-none : t ≡ false → 0 ≡ cellsOf n
-  cells-none h = rw (← ed, ← et, h)
-
-  pub page-none : t ≡ false → 0 ≡ pageOf n
-  page-none h = rw (← ed, ← et, h)
+  pub sizes-none : t ≡ false → sizesAs 0 0 ≡ sizesOf n
+  sizes-none h = rw (← ed, ← et, h)
 
 -- Preparing.
 module _ (n d : ℕ) (ed : d ≡ deviceOf n) (b : Buffers) where

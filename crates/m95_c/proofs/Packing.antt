@@ -88,9 +88,15 @@ eight-bits n k = within 8 (n / 2 ^ k) 256 refl
 pub put-over : (n : ℕ) (xs room : List ℕ) → length xs ≡ n → length room ≡ n → take n xs ++ drop n room ≡ xs
 put-over n xs room e f = rw (take-all n xs (le-of-eq e), ← f, drop-length room) (append-nil xs)
 
-pub flags-put : (s : State)
-    → (boolByte (s .pins .c) ∷ boolByte (s .pins .d) ∷ boolByte (s .pins .s) ∷ boolByte (s .pins .hold) ∷ boolByte (s .pins .w) ∷ boolByte (s .selection .selected) ∷ boolByte (s .selection .held) ∷ boolByte (s .selection .seen) ∷ boolByte (s .command .away) ∷ boolByte (s .registers .wel) ∷ boolByte (s .registers .locked) ∷ []) ≡ flagBytes s
-flags-put s = rw (flag-number (s .pins .c), flag-number (s .pins .d), flag-number (s .pins .s), flag-number (s .pins .hold), flag-number (s .pins .w), flag-number (s .selection .selected), flag-number (s .selection .held), flag-number (s .selection .seen), flag-number (s .command .away), flag-number (s .registers .wel), flag-number (s .registers .locked))
+-- The flags as the code puts them.
+abbrev cast : State → List ℕ
+cast s = boolByte (s .pins .c) ∷ boolByte (s .pins .d) ∷ boolByte (s .pins .s) ∷ boolByte (s .pins .hold) ∷ boolByte (s .pins .w) ∷ boolByte (s .selection .selected) ∷ boolByte (s .selection .held) ∷ boolByte (s .selection .seen) ∷ boolByte (s .command .away) ∷ boolByte (s .registers .wel) ∷ boolByte (s .registers .locked) ∷ []
+
+cast-flags : (s : State) → cast s ≡ flagBytes s
+cast-flags s = rw (flag-number (s .pins .c), flag-number (s .pins .d), flag-number (s .pins .s), flag-number (s .pins .hold), flag-number (s .pins .w), flag-number (s .selection .selected), flag-number (s .selection .held), flag-number (s .selection .seen), flag-number (s .command .away), flag-number (s .registers .wel), flag-number (s .registers .locked))
+
+pub flags-put : (s : State) (room after : List ℕ) → length room ≡ 11 → after ≡ take 11 (cast s) ++ drop 11 room → after ≡ flagBytes s
+flags-put s room after h e = e ∙ put-over 11 (cast s) room refl h ∙ cast-flags s
 
 -- The three parts put one after the other.
 pub parts-put : (s : State) (room numbers flags others : List ℕ) → length room ≡ 36 → numbers ≡ numberBytes (s .place) → flags ≡ flagBytes s → others ≡ otherBytes s → putMid 23 13 (putMid 12 11 (numbers ++ postOf 0 12 room) flags) others ≡ bytesOf s

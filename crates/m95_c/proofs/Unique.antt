@@ -3,12 +3,12 @@ use Prim.Native.Nat.{ℕ}
 use mathlib.Core.Path.{_≡_}
 use mathlib.Core.List.{List}
 use Rattle.m95.proofs.Unique.{unique}
-use Rattle.m95_c.specs.Left.{cellsOf, pageOf, Buffers, buffersRefusal, Prepared, prepareLeft, Replied, eventLeft, Ran, runLeft, Told, statusLeft, Placed, cellPageLeft, identificationPageLeft}
+use Rattle.m95_c.specs.Left.{sizesOf, Buffers, buffersRefusal, Prepared, prepareLeft, Replied, eventLeft, Ran, runLeft, Told, statusLeft, Placed, cellPageLeft, identificationPageLeft}
 
-pub unique-cells : {x y : ℕ} (device : ℕ) → x ≡ cellsOf device → y ≡ cellsOf device → x ≡ y
+pub unique-cells : {x y : ℕ} (device : ℕ) → x ≡ sizesOf device .cells → y ≡ sizesOf device .cells → x ≡ y
 unique-cells device e f = unique e f
 
-pub unique-page : {x y : ℕ} (device : ℕ) → x ≡ pageOf device → y ≡ pageOf device → x ≡ y
+pub unique-page : {x y : ℕ} (device : ℕ) → x ≡ sizesOf device .page → y ≡ sizesOf device .page → x ≡ y
 unique-page device e f = unique e f
 
 pub unique-refusal : {x y : ℕ} (device : ℕ) (b : Buffers) → x ≡ buffersRefusal device b → y ≡ buffersRefusal device b → x ≡ y

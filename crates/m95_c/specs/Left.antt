@@ -5,18 +5,19 @@ use Rattle.rules.specs.Device.{isDevice, rowOf}
 use Rattle.rules.specs.Send.{statusByte}
 use Rattle.rules.specs.Trace.{lengthOf, pinEvent}
 use Rattle.rules.specs.Call.{worldRefusal, prepareOutcome, eventOutcome, runOutcome, cellPageOutcome, identificationPageOutcome}
-use Rattle.m95_c.specs.StateBytes.{isState, stateOf, stateAt, noState, bytesOf}
+use Rattle.m95_c.specs.declared.Sizes.{Sizes}
+use Rattle.m95_c.specs.StateBytes.{stateLength, isState, stateOf, stateAt, noState, bytesOf}
 
 -- A number above a byte's is no device's, as 0 is.
 abbrev pub deviceOf : ℕ → ℕ
 deviceOf n = if leb n 255 then n else 0
 
--- How many cells a device has, and how many bytes a page: 0 for a number that is no device's.
-abbrev pub cellsOf : ℕ → ℕ
-cellsOf n = if isDevice (deviceOf n) then rowOf (deviceOf n) .cells else 0
+-- How many cells a device has, and how many bytes a page: 0 and 0 for a number that is no device's.
+abbrev pub sizesAs : ℕ → ℕ → Sizes
+sizesAs cells page = record { cells = cells; page = page }
 
-abbrev pub pageOf : ℕ → ℕ
-pageOf n = if isDevice (deviceOf n) then rowOf (deviceOf n) .page else 0
+abbrev pub sizesOf : ℕ → Sizes
+sizesOf n = let row = rowOf (deviceOf n) in if isDevice (deviceOf n) then sizesAs (row .cells) (row .page) else sizesAs 0 0
 
 -- The buffers lent to a call: the state's bytes, and those of the device.
 pub record Buffers : Type 0 where
@@ -34,7 +35,7 @@ worldIn b = worldOf (stateOf (b .state)) (b .cells) (b .identification) (b .latc
 abbrev pub buffersWith : World → Buffers
 buffersWith w = buffersOf (bytesOf (w .state)) (w .cells) (w .identification) (w .latch)
 
--- 1 to 5, or 0: what every call on a device's buffers is judged by first.
+-- 1 to 5, or 0: what an event or a trace is judged by first.
 abbrev pub buffersRefusal : ℕ → Buffers → ℕ
 buffersRefusal device b = worldRefusal (deviceOf device) (worldIn b)
 
@@ -50,7 +51,7 @@ unfoldable pub prepareLeft : ℕ → Buffers → Prepared
 prepareLeft device b =
     let o = prepareOutcome (deviceOf device) (b .cells) (b .identification) (b .latch) in
     let none = worldOf noState (b .cells) (b .identification) (b .latch) in
-    if eqb (length (b .state)) 36 then preparedAs (o .number) (buffersWith (o .world))
+    if eqb (length (b .state)) stateLength then preparedAs (o .number) (buffersWith (o .world))
     else preparedAs (worldRefusal (deviceOf device) none) b
 
 -- An event by the kind of its record and the number in it: 7 for a kind that is none, 9 for a pin byte above 9. No cycle lasts as long as the longest wait of a record, and a longer one counts as that.

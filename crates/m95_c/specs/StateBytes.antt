@@ -30,9 +30,12 @@ levels = Level.Low ∷ Level.High ∷ Level.Z ∷ []
 abbrev pub kinds : List Kind
 kinds = Kind.None ∷ Kind.Array ∷ Kind.Identification ∷ Kind.Status ∷ Kind.Lock ∷ []
 
+abbrev pub stateLength : ℕ
+stateLength = 36
+
 -- Whether bytes are a state at all: as many, the flags flags, and the three places inside their lists.
 unfoldable pub isState : List ℕ → Bool
-isState b = eqb (length b) 36 && (areMarks (take 11 (drop 12 b)) && leb (getD b 23 0) 10 && leb (getD b 24 0) 2 && leb (getD b 25 0) 4)
+isState b = eqb (length b) stateLength && (areMarks (take 11 (drop 12 b)) && leb (getD b 23 0) 10 && leb (getD b 24 0) 2 && leb (getD b 25 0) 4)
 
 -- The groups of the state, read from its bytes.
 abbrev pub flagAt : List ℕ → ℕ → Bool

@@ -3,7 +3,7 @@
 
 ghost use mathlib.Core.Path.{_≡_};
 ghost use Prim.Native.Nat.{min};
-ghost use Rattle.m95_c.specs.Left.{deviceOf, cellsOf, pageOf, buffersOf, buffersRefusal, preparedAs, prepareLeft, eventRefusal, eventOf, repliedAs, eventLeft, ranAs, runLeft, toldAs, statusLeft, placedAs, cellPageLeft, identificationPageLeft};
+ghost use Rattle.m95_c.specs.Left.{deviceOf, sizesOf, buffersOf, buffersRefusal, preparedAs, prepareLeft, eventRefusal, eventOf, repliedAs, eventLeft, ranAs, runLeft, toldAs, statusLeft, placedAs, cellPageLeft, identificationPageLeft};
 use putting::put_state;
 use reading::is_state;
 use reading::no_state;
@@ -23,30 +23,41 @@ fn device_of(number: usize) -> u8
     0
 }
 
-// How many cells a device has, or 0.
-#[no_mangle]
-pub extern "C" fn m95_cells(device: usize) -> usize
-    ensures { λ r. ⌜ r ≡ cellsOf device ⌝ }
-{
-    let number = device_of(device);
-    let row = tables::row_of(number);
-    if tables::is_device(number) {
-        return row.cells;
-    }
-    0
+// How many cells a device has, and how many bytes a page of it.
+pub struct Sizes {
+    pub cells: usize,
+    pub page: usize,
 }
 
-// How many bytes a page of a device has, or 0.
-#[no_mangle]
-pub extern "C" fn m95_page(device: usize) -> usize
-    ensures { λ r. ⌜ r ≡ pageOf device ⌝ }
+// A device's sizes; 0 and 0 where there is no such device.
+fn sizes_of(device: usize) -> Sizes
+    ensures { λ r. ⌜ r ≡ sizesOf device ⌝ }
 {
     let number = device_of(device);
     let row = tables::row_of(number);
     if tables::is_device(number) {
-        return row.page;
+        return Sizes {
+            cells: row.cells,
+            page: row.page,
+        };
     }
-    0
+    Sizes { cells: 0, page: 0 }
+}
+
+#[no_mangle]
+pub extern "C" fn m95_cells(device: usize) -> usize
+    ensures { λ r. ⌜ r ≡ sizesOf device .cells ⌝ }
+{
+    let sizes = sizes_of(device);
+    sizes.cells
+}
+
+#[no_mangle]
+pub extern "C" fn m95_page(device: usize) -> usize
+    ensures { λ r. ⌜ r ≡ sizesOf device .page ⌝ }
+{
+    let sizes = sizes_of(device);
+    sizes.page
 }
 
 // What a device's buffers are refused with, 1 to 5, or 0.

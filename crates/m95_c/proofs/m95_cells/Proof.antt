@@ -1,24 +1,15 @@
 -- `m95_c::m95_cells` meets its contract.
-use Rattle.m95_c.proofs.Leaving.{cells-told, cells-none}
+use mathlib.Core.Path.{ap}
+use Rattle.m95_c.specs.declared.Sizes.{Sizes}
 use borrow.Author.Needs.{needs}
 use Rattle.m95_c.proofs.m95_cells.Statement.{statement}
 use Rattle.m95_c.proofs.m95_cells.Tie as tie
 
-device-of-requires : tie.Need-device-of-requires
-device-of-requires c κs = search needs
-
-row-of-requires : tie.Need-row-of-requires
-row-of-requires c κs = search needs
-
-is-device-requires : tie.Need-is-device-requires
-is-device-requires c κs = search needs
+sizes-of-requires : tie.Need-sizes-of-requires
+sizes-of-requires c κs = search needs
 
 returns : tie.Need-returns
-returns c = cells-told (c .before .before .before .before .args .device) (c .before .before .before .device-of .result) (c .before .before .before .device-of .ensures) (c .before .before .row-of .result) (c .before .before .row-of .ensures) (c .before .is-device .result) (c .before .is-device .ensures) (c .if1 .taken)
-
-returns-2 : tie.Need-returns-2
-returns-2 c = cells-none (c .before .before .before .before .args .device) (c .before .before .before .device-of .result) (c .before .before .before .device-of .ensures) (c .before .before .row-of .result) (c .before .before .row-of .ensures) (c .before .is-device .result) (c .before .is-device .ensures) (c .if1 .left)
+returns c = ap (λ (x : Sizes). x .cells) (c .sizes-of .ensures)
 
 pub m95-cells-spec : {M : Type 1} → statement M
-m95-cells-spec =
-    tie.close (tie.spec device-of-requires row-of-requires is-device-requires returns returns-2)
+m95-cells-spec = tie.close (tie.spec sizes-of-requires returns)

@@ -1,6 +1,5 @@
 -- `m95_c::putting::put_flags` meets its contract.
-use mathlib.Core.Path.{refl, _∙_}
-use Rattle.m95_c.proofs.Packing.{put-over, flags-put}
+use Rattle.m95_c.proofs.Packing.{flags-put}
 use native.Mathlib.Omega.{arith}
 use borrow.Author.Needs.{needs}
 use Rattle.m95_c.proofs.putting.put_flags.Statement.{statement}
@@ -49,7 +48,7 @@ same-length : tie.Need-same-length
 same-length c = search needs
 
 returns : tie.Need-returns
-returns c = c .before .before .copy .ensures .1 ∙ put-over 11 _ (c .before .before .before .before .before .before .before .before .before .before .before .before .before .before .before .before .before .args .room .now) refl (c .before .before .before .before .before .before .before .before .before .before .before .before .before .before .before .before .before .pre) ∙ flags-put (c .before .before .before .before .before .before .before .before .before .before .before .before .before .before .before .before .before .args .s)
+returns c = flags-put (c .before .before .before .before .before .before .before .before .before .before .before .before .before .before .before .before .before .args .s) (c .before .before .before .before .before .before .before .before .before .before .before .before .before .before .before .before .before .args .room .now) _ (c .before .before .before .before .before .before .before .before .before .before .before .before .before .before .before .before .before .pre) (c .before .before .copy .ensures .1)
 
 pub put-flags-spec : {M : Type 1} → statement M
 put-flags-spec =
