@@ -9,18 +9,15 @@ use lib.ListN.{length, length-append, length-replicate}
 use lib.Dec.{lit<}
 use Rattle.rules.specs.World.{Row, Event, World, if_then_else_, bit}
 use Rattle.rules.specs.Device.{Widths, m95128, prepared}
-use Rattle.rules.specs.Instruction.{decode, longer}
-use Rattle.rules.specs.Receive.{rolled, addressAfter, latchAfter, risen, risenLatch}
-use Rattle.rules.specs.Send.{shownAddress, outputAfter, fallen}
-use Rattle.rules.specs.Judge.{storable, isProtected, allows, isWhole, isDone, judged}
-use Rattle.rules.specs.Cycle.{written, waitedState, waited}
-use Rattle.rules.specs.Event.{react, step, next, after}
+use Rattle.rules.specs.Judge.{storable}
+use Rattle.rules.specs.Event.{next, after}
 use Rattle.rules.specs.Sound.{Sound, Lent}
 use Rattle.rules.specs.Examples.{bitsIn}
 use Rattle.rules.specs.Selections.{Broken, rises, Inside, end, clock, input, Cut, done, keep, drop, enabling, bounced, reading, Incident, heard, heardLeft, contents}
 use Rattle.rules.proofs.Choice.{clash}
 use Rattle.rules.proofs.Widths.{page-below, of-device}
 use Rattle.rules.proofs.Latch.{zeros}
+use Rattle.rules.proofs.Opened.{opened}
 use Rattle.rules.proofs.Selections.{demand-3}
 
 -- A prepared device is sound.
@@ -82,11 +79,11 @@ before : World
 before = after m95128 enabling (prepared m95128)
 
 begins : (before .state .selection .selected ≡ false) × (before .state .pins .s ≡ true)
-unfolding before prepared decode longer rolled addressAfter latchAfter risen risenLatch shownAddress outputAfter fallen isProtected allows isWhole isDone judged written waitedState waited react step next
+unfolding before opened
 begins = (refl, refl)
 
 bounces : Broken (rises m95128 bounced (next m95128 (Event.Select false) before) 0)
-unfolding before prepared decode longer rolled addressAfter latchAfter risen risenLatch shownAddress outputAfter fallen isProtected allows isWhole isDone judged written waitedState waited react step next
+unfolding before opened
 bounces e = let z : _≡_ {A = ℕ} 1 0 = e in absurd (omega arith)
 
 pub incident : Incident

@@ -1,6 +1,8 @@
 -- The theorems on the rules, and the laws that they rest on.
 pub mod Choice
+pub mod Opened
 pub mod Examples
+pub mod Readings
 pub mod Incident
 pub mod Inside
 pub mod Latch
@@ -8,7 +10,9 @@ pub mod Pieces
 pub mod Preserved
 pub mod Received
 pub mod Program
+pub mod Printed
 pub mod Refusals
+pub mod Unsound
 pub mod Runs
 pub mod Same
 pub mod Selections

@@ -1,6 +1,6 @@
--- The theorems on the bench program: `printed`, by computation, and `bench-uncut`.
+-- The theorem `bench-uncut`: neither the limit nor the room for answers ends the bench's run.
 use Prim.Native.Nat.{ℕ, _+_}
-use mathlib.Core.Path.{_≡_, refl, sym, subst}
+use mathlib.Core.Path.{_≡_, sym, subst}
 use mathlib.Core.Bool.{true}
 use mathlib.Core.List.{List}
 use native.Mathlib.Nat.{le-refl}
@@ -8,23 +8,14 @@ use lib.ListN.{length, replicate, length-replicate}
 use borrow.Author.Tests.{eq-eqb}
 use Rattle.rules.specs.World.{World}
 use Rattle.rules.specs.Device.{isDevice, rowOf, prepared}
-use Rattle.rules.specs.Receive.{risen, risenLatch}
-use Rattle.rules.specs.Send.{fallen}
-use Rattle.rules.specs.Judge.{isProtected, allows, isWhole, isDone, judged}
-use Rattle.rules.specs.Cycle.{waitedState, waited}
-use Rattle.rules.specs.Event.{react, step}
-use Rattle.rules.specs.Sound.{clauses, isSound, Sound, Lent}
-use Rattle.rules.specs.Trace.{eventAt, recordRefusal, progressOf, turn, run}
-use Rattle.rules.specs.Call.{lentRefusal, worldRefusal, runOutcome, firstRecord}
+use Rattle.rules.specs.Sound.{Sound, Lent}
+use Rattle.rules.specs.Trace.{progressOf, run}
+use Rattle.rules.specs.Call.{lentRefusal, worldRefusal, runOutcome}
 use Rattle.rules.specs.Program as spec
 use Rattle.rules.proofs.Incident.{prepared-sound, prepared-lent}
 use Rattle.rules.proofs.Runs.{Course, course, uncut}
 use Rattle.rules.proofs.Soundness.{reads}
 use Rattle.rules.proofs.Widths.{of-device}
-
-pub printed : spec.Printed
-unfolding prepared risen risenLatch fallen isProtected allows isWhole isDone judged waitedState waited react step clauses isSound eventAt recordRefusal turn lentRefusal worldRefusal runOutcome firstRecord spec.decimal spec.benchRun spec.runText spec.benchText
-printed = refl
 
 -- A sound world of a device with buffers of its lengths is not refused.
 pub world-taken : (device : ℕ) (w : World) → isDevice device ≡ true → Sound (rowOf device) w → Lent (rowOf device) w → worldRefusal device w ≡ 0

@@ -1,16 +1,229 @@
--- The theorem `refusals`, by computation.
+-- The theorem `refusals`: a law for each line, by computation, and the whole table from them.
 use mathlib.Core.Path.{refl}
-use Rattle.rules.specs.Device.{prepared}
-use Rattle.rules.specs.Receive.{risen, risenLatch}
-use Rattle.rules.specs.Send.{fallen}
-use Rattle.rules.specs.Judge.{judged}
-use Rattle.rules.specs.Cycle.{waitedState, waited}
-use Rattle.rules.specs.Event.{react, step}
-use Rattle.rules.specs.Sound.{clauses, isSound}
-use Rattle.rules.specs.Trace.{eventAt, recordRefusal, turn}
-use Rattle.rules.specs.Call.{lentRefusal, worldRefusal, prepareOutcome, eventOutcome, runOutcome, cellPageOutcome, identificationPageOutcome, firstRecord}
+use Rattle.rules.specs.World.{none, _and_}
 use Rattle.rules.specs.Refusals as spec
+use Rattle.rules.proofs.Opened.{calls}
 
-pub refusals : spec.Given
-unfolding prepared risen risenLatch fallen judged waitedState waited react step clauses isSound eventAt recordRefusal turn lentRefusal worldRefusal prepareOutcome eventOutcome runOutcome cellPageOutcome identificationPageOutcome firstRecord
-refusals = refl
+prepare-taken : spec.Gives spec.prepare-taken
+unfolding calls
+prepare-taken = refl
+
+prepare-device-five : spec.Gives spec.prepare-device-five
+unfolding calls
+prepare-device-five = refl
+
+prepare-device-zero : spec.Gives spec.prepare-device-zero
+unfolding calls
+prepare-device-zero = refl
+
+prepare-cells : spec.Gives spec.prepare-cells
+unfolding calls
+prepare-cells = refl
+
+prepare-identification : spec.Gives spec.prepare-identification
+unfolding calls
+prepare-identification = refl
+
+prepare-latch : spec.Gives spec.prepare-latch
+unfolding calls
+prepare-latch = refl
+
+event-taken : spec.Gives spec.event-taken
+unfolding calls
+event-taken = refl
+
+event-device : spec.Gives spec.event-device
+unfolding calls
+event-device = refl
+
+event-cells : spec.Gives spec.event-cells
+unfolding calls
+event-cells = refl
+
+event-identification : spec.Gives spec.event-identification
+unfolding calls
+event-identification = refl
+
+event-latch : spec.Gives spec.event-latch
+unfolding calls
+event-latch = refl
+
+event-mark : spec.Gives spec.event-mark
+unfolding calls
+event-mark = refl
+
+event-power-in-a-cycle : spec.Gives spec.event-power-in-a-cycle
+unfolding calls
+event-power-in-a-cycle = refl
+
+run-to-its-end : spec.Gives spec.run-to-its-end
+unfolding calls
+run-to-its-end = refl
+
+run-to-its-limit : spec.Gives spec.run-to-its-limit
+unfolding calls
+run-to-its-limit = refl
+
+run-each-pin : spec.Gives spec.run-each-pin
+unfolding calls
+run-each-pin = refl
+
+run-wait : spec.Gives spec.run-wait
+unfolding calls
+run-wait = refl
+
+run-wait-third-byte : spec.Gives spec.run-wait-third-byte
+unfolding calls
+run-wait-third-byte = refl
+
+run-wait-fourth-byte : spec.Gives spec.run-wait-fourth-byte
+unfolding calls
+run-wait-fourth-byte = refl
+
+run-answers-low : spec.Gives spec.run-answers-low
+unfolding calls
+run-answers-low = refl
+
+run-answers-high : spec.Gives spec.run-answers-high
+unfolding calls
+run-answers-high = refl
+
+run-device : spec.Gives spec.run-device
+unfolding calls
+run-device = refl
+
+run-cells : spec.Gives spec.run-cells
+unfolding calls
+run-cells = refl
+
+run-identification : spec.Gives spec.run-identification
+unfolding calls
+run-identification = refl
+
+run-latch : spec.Gives spec.run-latch
+unfolding calls
+run-latch = refl
+
+run-mark : spec.Gives spec.run-mark
+unfolding calls
+run-mark = refl
+
+run-no-four-bytes : spec.Gives spec.run-no-four-bytes
+unfolding calls
+run-no-four-bytes = refl
+
+run-unknown-kind : spec.Gives spec.run-unknown-kind
+unfolding calls
+run-unknown-kind = refl
+
+run-kind-of-two-bytes : spec.Gives spec.run-kind-of-two-bytes
+unfolding calls
+run-kind-of-two-bytes = refl
+
+run-wrong-length : spec.Gives spec.run-wrong-length
+unfolding calls
+run-wrong-length = refl
+
+run-length-of-two-bytes : spec.Gives spec.run-length-of-two-bytes
+unfolding calls
+run-length-of-two-bytes = refl
+
+run-no-body : spec.Gives spec.run-no-body
+unfolding calls
+run-no-body = refl
+
+run-no-pin : spec.Gives spec.run-no-pin
+unfolding calls
+run-no-pin = refl
+
+run-no-answer-left : spec.Gives spec.run-no-answer-left
+unfolding calls
+run-no-answer-left = refl
+
+run-power-in-a-cycle : spec.Gives spec.run-power-in-a-cycle
+unfolding calls
+run-power-in-a-cycle = refl
+
+cell-page-first-address : spec.Gives spec.cell-page-first-address
+unfolding calls
+cell-page-first-address = refl
+
+cell-page-last-address : spec.Gives spec.cell-page-last-address
+unfolding calls
+cell-page-last-address = refl
+
+cell-page-device : spec.Gives spec.cell-page-device
+unfolding calls
+cell-page-device = refl
+
+cell-page-cells : spec.Gives spec.cell-page-cells
+unfolding calls
+cell-page-cells = refl
+
+cell-page-past-the-cells : spec.Gives spec.cell-page-past-the-cells
+unfolding calls
+cell-page-past-the-cells = refl
+
+cell-page-of-the-last-cell : spec.Gives spec.cell-page-of-the-last-cell
+unfolding calls
+cell-page-of-the-last-cell = refl
+
+identification-page-shown : spec.Gives spec.identification-page-shown
+unfolding calls
+identification-page-shown = refl
+
+identification-page-device : spec.Gives spec.identification-page-device
+unfolding calls
+identification-page-device = refl
+
+identification-page-length : spec.Gives spec.identification-page-length
+unfolding calls
+identification-page-length = refl
+
+first-taken : spec.Gives spec.first-taken
+unfolding calls
+first-taken = refl
+
+first-too-long : spec.Gives spec.first-too-long
+unfolding calls
+first-too-long = refl
+
+first-of-32768-bytes : spec.Gives spec.first-of-32768-bytes
+unfolding calls
+first-of-32768-bytes = refl
+
+first-no-four-bytes : spec.Gives spec.first-no-four-bytes
+unfolding calls
+first-no-four-bytes = refl
+
+first-other-kind : spec.Gives spec.first-other-kind
+unfolding calls
+first-other-kind = refl
+
+first-other-length : spec.Gives spec.first-other-length
+unfolding calls
+first-other-length = refl
+
+first-no-body : spec.Gives spec.first-no-body
+unfolding calls
+first-no-body = refl
+
+first-device-three : spec.Gives spec.first-device-three
+unfolding calls
+first-device-three = refl
+
+first-device-zero : spec.Gives spec.first-device-zero
+unfolding calls
+first-device-zero = refl
+
+pub refusals : spec.Given spec.refusals
+refusals =
+    prepare-taken and prepare-device-five and prepare-device-zero and prepare-cells and prepare-identification and prepare-latch and event-taken
+    and event-device and event-cells and event-identification and event-latch and event-mark and event-power-in-a-cycle and run-to-its-end
+    and run-to-its-limit and run-each-pin and run-wait and run-wait-third-byte and run-wait-fourth-byte and run-answers-low and run-answers-high
+    and run-device and run-cells and run-identification and run-latch and run-mark and run-no-four-bytes and run-unknown-kind
+    and run-kind-of-two-bytes and run-wrong-length and run-length-of-two-bytes and run-no-body and run-no-pin and run-no-answer-left
+    and run-power-in-a-cycle and cell-page-first-address and cell-page-last-address and cell-page-device and cell-page-cells
+    and cell-page-past-the-cells and cell-page-of-the-last-cell and identification-page-shown and identification-page-device
+    and identification-page-length and first-taken and first-too-long and first-of-32768-bytes and first-no-four-bytes and first-other-kind
+    and first-other-length and first-no-body and first-device-three and first-device-zero and none

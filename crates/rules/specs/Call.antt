@@ -85,6 +85,9 @@ pub record First : Type 0 where
   pub number : ℕ
   pub device : ℕ
 
+abbrev pub firstAs : ℕ → ℕ → First
+firstAs number device = record { number = number; device = device }
+
 unfoldable pub firstRecord : List ℕ → First
 firstRecord input =
     let device = getD input 4 0 in

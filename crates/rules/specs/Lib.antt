@@ -12,5 +12,7 @@ pub mod Trace
 pub mod Call
 pub mod Program
 pub mod Examples
+pub mod Readings
 pub mod Selections
 pub mod Refusals
+pub mod Unsound

@@ -1,8 +1,8 @@
 -- 01, "Bench program": what it prints, byte for byte, as one function of its input. Texts are lists of ASCII codes.
-use Rattle.rules.specs.World.{ℕ, zero, suc, _+_, _/_, _%_, _≡_, List, [], _∷_, _++_, map, take, drop, replicate, length, eqb, ltb, if_then_else_}
-use Rattle.rules.specs.Device.{rowOf, prepared}
+use Rattle.rules.specs.World.{ℕ, zero, suc, _+_, _/_, _%_, _≡_, true, false, List, [], _∷_, _++_, take, drop, replicate, length, eqb, ltb, if_then_else_, withStored, withState, Each}
+use Rattle.rules.specs.Device.{m95128, rowOf, preparedState, prepared}
 use Rattle.rules.specs.Send.{statusByte}
-use Rattle.rules.specs.Trace.{Progress}
+use Rattle.rules.specs.Trace.{Progress, progressOf}
 use Rattle.rules.specs.Call.{runOutcome, firstRecord}
 
 -- A digit, 0 to 9 and then A to F.
@@ -68,15 +68,49 @@ pub record Uncut (trace : List ℕ) (p : Progress) : Type 0 where
   pub room : p .number ≡ 10 → ⊥
   pub whole : p .number ≡ 0 → p .taken ≡ length trace
 
--- By example: 01's own, a run that is refused after its first record, and each of the two ways to print no more than the end.
-abbrev pub printed : List (List ℕ × List ℕ)
-printed =
-    (3 ∷ 0 ∷ 16 ∷ 0 ∷ 1 ∷ 3 ∷ 0 ∷ 1 ∷ 0 ∷ 4 ∷ 3 ∷ 0 ∷ 1 ∷ 0 ∷ 5 ∷ [], header ++ (49 ∷ 32 ∷ 90 ∷ 10 ∷ 50 ∷ 32 ∷ 90 ∷ 10 ∷ 101 ∷ 110 ∷ 100 ∷ 32 ∷ 48 ∷ 32 ∷ 48 ∷ 48 ∷ 10 ∷ []))
-    ∷ (3 ∷ 0 ∷ 16 ∷ 0 ∷ 2 ∷ 3 ∷ 0 ∷ 1 ∷ 0 ∷ 4 ∷ 3 ∷ 0 ∷ 16 ∷ 0 ∷ 1 ∷ [], header ++ (49 ∷ 32 ∷ 90 ∷ 10 ∷ 101 ∷ 110 ∷ 100 ∷ 32 ∷ 55 ∷ 32 ∷ 48 ∷ 48 ∷ 10 ∷ []))
-    ∷ (replicate 32_769 0, 101 ∷ 110 ∷ 100 ∷ 32 ∷ 49 ∷ 50 ∷ 32 ∷ 45 ∷ 45 ∷ 10 ∷ [])
-    ∷ (3 ∷ 0 ∷ 16 ∷ 0 ∷ 4 ∷ [], 101 ∷ 110 ∷ 100 ∷ 32 ∷ 49 ∷ 32 ∷ 45 ∷ 45 ∷ 10 ∷ [])
-    ∷ []
+-- A line: what the bench prints of an input or of a run, and the whole text written out.
+abbrev pub Line : Type 0
+Line = List ℕ × List ℕ
+
+abbrev pub Prints : Line → Type 0
+Prints l = l .0 ≡ l .1
+
+-- 01's own: two records, each answered by Z, and the end.
+abbrev pub printed-two-records : Line
+printed-two-records = (
+  benchText (3 ∷ 0 ∷ 16 ∷ 0 ∷ 1 ∷ 3 ∷ 0 ∷ 1 ∷ 0 ∷ 4 ∷ 3 ∷ 0 ∷ 1 ∷ 0 ∷ 5 ∷ []),
+  header ++ (49 ∷ 32 ∷ 90 ∷ 10 ∷ 50 ∷ 32 ∷ 90 ∷ 10 ∷ 101 ∷ 110 ∷ 100 ∷ 32 ∷ 48 ∷ 32 ∷ 48 ∷ 48 ∷ 10 ∷ []),
+)
+
+-- A run that is refused at its second record prints what was done before.
+abbrev pub printed-then-refused : Line
+printed-then-refused = (
+  benchText (3 ∷ 0 ∷ 16 ∷ 0 ∷ 2 ∷ 3 ∷ 0 ∷ 1 ∷ 0 ∷ 4 ∷ 3 ∷ 0 ∷ 16 ∷ 0 ∷ 1 ∷ []),
+  header ++ (49 ∷ 32 ∷ 90 ∷ 10 ∷ 101 ∷ 110 ∷ 100 ∷ 32 ∷ 55 ∷ 32 ∷ 48 ∷ 48 ∷ 10 ∷ []),
+)
+
+-- No record at all: the header stands all the same.
+abbrev pub printed-no-record : Line
+printed-no-record = (benchText (3 ∷ 0 ∷ 16 ∷ 0 ∷ 1 ∷ []), header ++ (101 ∷ 110 ∷ 100 ∷ 32 ∷ 48 ∷ 32 ∷ 48 ∷ 48 ∷ 10 ∷ []))
+
+-- The two ways to print no more than the end: an input too long, and a first record that is refused.
+abbrev pub printed-too-long : Line
+printed-too-long = (benchText (replicate 32_769 0), 101 ∷ 110 ∷ 100 ∷ 32 ∷ 49 ∷ 50 ∷ 32 ∷ 45 ∷ 45 ∷ 10 ∷ [])
+
+abbrev pub printed-device-four : Line
+printed-device-four = (benchText (3 ∷ 0 ∷ 16 ∷ 0 ∷ 4 ∷ []), 101 ∷ 110 ∷ 100 ∷ 32 ∷ 49 ∷ 32 ∷ 45 ∷ 45 ∷ 10 ∷ [])
+
+-- Each level as it is shown, answers past the last record done left out, a number of two digits, and RDSR's byte: WEL with SRWD, BP1 and BP0.
+abbrev pub printed-levels : Line
+printed-levels = (
+  runText
+      (progressOf 11 0 3 (withState (withStored (record { status = 0x8C; wel = true; locked = false }) (preparedState .cycle) 0 0 preparedState) (prepared m95128)) (0 ∷ 1 ∷ 2 ∷ 1 ∷ [])),
+  header ++ (49 ∷ 32 ∷ 48 ∷ 10 ∷ 50 ∷ 32 ∷ 49 ∷ 10 ∷ 51 ∷ 32 ∷ 90 ∷ 10 ∷ 101 ∷ 110 ∷ 100 ∷ 32 ∷ 49 ∷ 49 ∷ 32 ∷ 56 ∷ 69 ∷ 10 ∷ []),
+)
+
+abbrev pub printed : List Line
+printed = printed-two-records ∷ printed-then-refused ∷ printed-no-record ∷ printed-too-long ∷ printed-device-four ∷ printed-levels ∷ []
 
 -- The theorem `printed`: each input prints as expected.
 abbrev pub Printed : Type 0
-Printed = map (λ (l : List ℕ × List ℕ). benchText (l .0)) printed ≡ map (λ (l : List ℕ × List ℕ). l .1) printed
+Printed = Each Prints printed

@@ -1,102 +1,279 @@
--- 01, "Numbers given back", by example: for each call each number that it can give, and rows where two faults stand together and the earlier number wins.
-use Rattle.rules.specs.World.{ℕ, _≡_, true, false, List, [], _∷_, _++_, map, take, length, replicate, Kind, Event, State, World, withSelection, withStored, withState, withLatch}
-use Rattle.rules.specs.Device.{m95040, preparedState, prepared}
-use Rattle.rules.specs.Call.{prepareOutcome, eventOutcome, runOutcome, cellPageOutcome, identificationPageOutcome, firstRecord}
+-- 01, "Numbers given back", by example: for each call each number that it can give, with the whole outcome beside it (the answer, the
+-- counts, the state and every lent buffer), and where two faults stand together the earlier number. `Unsound` has what gives 5.
+use Rattle.rules.specs.World.{ℕ, _≡_, true, false, List, [], _∷_, _++_, replicate, Instruction, Kind, Level, Event, State, World, worldOf, withPins, withSelection, withStored, withState, withLatch, Each}
+use Rattle.rules.specs.Device.{preparedState}
+use Rattle.rules.specs.Trace.{Progress, progressOf}
+use Rattle.rules.specs.Call.{Prepared, preparedAs, prepareOutcome, Replied, repliedAs, eventOutcome, runOutcome, Shown, shownAs, cellPageOutcome, identificationPageOutcome, First, firstAs, firstRecord}
 
-pub data Call : Type 0 where
-  prepare : ℕ → List ℕ → List ℕ → List ℕ → Call
-  event : ℕ → World → Event → Call
-  run : ℕ → World → List ℕ → List ℕ → ℕ → Call
-  cellPage : ℕ → List ℕ → ℕ → Call
-  identificationPage : ℕ → List ℕ → Call
-  first : List ℕ → Call
+-- A line: a call, and its whole outcome.
+pub data Line : Type 0 where
+  prepare : ℕ → List ℕ → List ℕ → List ℕ → Prepared → Line
+  event : ℕ → World → Event → Replied → Line
+  run : ℕ → World → List ℕ → List ℕ → ℕ → Progress → Line
+  cellPage : ℕ → List ℕ → ℕ → Shown → Line
+  identificationPage : ℕ → List ℕ → Shown → Line
+  first : List ℕ → First → Line
 
--- What is looked at: the number; then the first cell and how many there are; the answer; records done, bytes taken and all answers; the part; the device.
-abbrev pub given : Call → List ℕ
-given (prepare device cells identification latch) = let r = prepareOutcome device cells identification latch in r .number ∷ length (r .world .cells) ∷ take 1 (r .world .cells)
-given (event device w e) = let r = eventOutcome device w e in r .number ∷ r .answer ∷ []
-given (run device w trace answers limit) = let r = runOutcome device w trace answers limit in r .number ∷ r .done ∷ r .taken ∷ r .answers
-given (cellPage device cells address) = let r = cellPageOutcome device cells address in r .number ∷ r .part
-given (identificationPage device identification) = let r = identificationPageOutcome device identification in r .number ∷ r .part
-given (first input) = let r = firstRecord input in r .number ∷ r .device ∷ []
+abbrev pub Gives : Line → Type 0
+Gives (prepare device cells identification latch r) = prepareOutcome device cells identification latch ≡ r
+Gives (event device w e r) = eventOutcome device w e ≡ r
+Gives (run device w trace answers limit r) = runOutcome device w trace answers limit ≡ r
+Gives (cellPage device cells address r) = cellPageOutcome device cells address ≡ r
+Gives (identificationPage device identification r) = identificationPageOutcome device identification ≡ r
+Gives (first input r) = firstRecord input ≡ r
 
--- A prepared M95040, and what can be wrong with it.
-abbrev good : World
-good = prepared m95040
+-- Preparing: fills all three buffers whatever they held, a mark of 9 included; refused it leaves them and gives the prepared state.
+abbrev lent : List ℕ → List ℕ → List ℕ → World
+lent cells identification latch = worldOf preparedState cells identification latch
+
+abbrev pub prepare-taken : Line
+prepare-taken =
+    prepare 1 (replicate 512 0) (replicate 16 0) (replicate 32 9) (preparedAs 0 (lent (replicate 512 0xFF) (replicate 16 0xFF) (replicate 32 0)))
+
+abbrev pub prepare-device-five : Line
+prepare-device-five = prepare 5 (7 ∷ []) (8 ∷ []) (9 ∷ []) (preparedAs 1 (lent (7 ∷ []) (8 ∷ []) (9 ∷ [])))
+
+abbrev pub prepare-device-zero : Line
+prepare-device-zero = prepare 0 [] [] [] (preparedAs 1 (lent [] [] []))
+
+abbrev pub prepare-cells : Line
+prepare-cells = prepare 1 (7 ∷ []) (8 ∷ []) (9 ∷ []) (preparedAs 2 (lent (7 ∷ []) (8 ∷ []) (9 ∷ [])))
+
+abbrev pub prepare-identification : Line
+prepare-identification = prepare 1 (replicate 512 7) (8 ∷ []) (9 ∷ []) (preparedAs 3 (lent (replicate 512 7) (8 ∷ []) (9 ∷ [])))
+
+abbrev pub prepare-latch : Line
+prepare-latch = prepare 1 (replicate 512 7) (replicate 16 8) (replicate 16 9) (preparedAs 4 (lent (replicate 512 7) (replicate 16 8) (replicate 16 9)))
+
+-- A prepared M95040 with bytes of its own, what can be wrong with it, and the same in a cycle.
+abbrev pub good : World
+good = lent (replicate 512 7) (replicate 16 8) (replicate 32 1)
 
 abbrev noCells : World
-noCells = record { state = preparedState; cells = []; identification = []; latch = [] }
+noCells = lent (7 ∷ []) (8 ∷ []) (9 ∷ [])
 
 abbrev noIdentification : World
-noIdentification = record { state = preparedState; cells = good .cells; identification = []; latch = [] }
+noIdentification = lent (good .cells) (8 ∷ []) (9 ∷ [])
 
 abbrev noLatch : World
-noLatch = record { state = preparedState; cells = good .cells; identification = good .identification; latch = [] }
+noLatch = lent (good .cells) (good .identification) (9 ∷ [])
 
 abbrev badMark : World
 badMark = withLatch (replicate 31 0 ++ 2 ∷ []) good
 
-abbrev busyState : State
-busyState = withStored (preparedState .registers) (record { kind = Kind.Array; next = 0 }) 0 5000 preparedState
+abbrev pub busy : ℕ → State
+busy left = withStored (record { status = 0x0C; wel = true; locked = true }) (record { kind = Kind.Array; next = 0x04 }) 496 left preparedState
 
 abbrev inCycle : World
-inCycle = withState busyState good
+inCycle = withState (busy 5000) good
 
--- Held while not selected, in a cycle.
-abbrev unsound : World
-unsound = withState (withSelection 0 (record { selected = false; held = true; seen = false }) (busyState .input) (busyState .command) (busyState .output) busyState) good
+-- Chosen by S's fall: the pins then, and the state.
+abbrev pub chosen : State
+chosen =
+    withPins (record { c = false; d = false; s = false; hold = true; w = true })
+    (withSelection 0 (record { selected = true; held = false; seen = false }) (preparedState .input) (preparedState .command) (preparedState .output) preparedState)
 
+-- A single event: taken, and refused with 1 to 5 and 11. Refused it answers 2, and the world is as it was.
+abbrev pub event-taken : Line
+event-taken = event 1 good (Event.Select false) (repliedAs 0 2 (withState chosen good))
+
+abbrev pub event-device : Line
+event-device = event 0 noCells Event.Power (repliedAs 1 2 noCells)
+
+abbrev pub event-cells : Line
+event-cells = event 1 noCells Event.Power (repliedAs 2 2 noCells)
+
+abbrev pub event-identification : Line
+event-identification = event 1 noIdentification Event.Power (repliedAs 3 2 noIdentification)
+
+abbrev pub event-latch : Line
+event-latch = event 1 noLatch Event.Power (repliedAs 4 2 noLatch)
+
+abbrev pub event-mark : Line
+event-mark = event 1 badMark Event.Power (repliedAs 5 2 badMark)
+
+abbrev pub event-power-in-a-cycle : Line
+event-power-in-a-cycle = event 1 inCycle Event.Power (repliedAs 11 2 inCycle)
+
+-- Records.
 abbrev pin : ℕ → List ℕ
 pin b = 3 ∷ 0 ∷ 1 ∷ 0 ∷ b ∷ []
+
+abbrev wait : ℕ → ℕ → ℕ → ℕ → List ℕ
+wait a b c d = 6 ∷ 0 ∷ 2 ∷ 0 ∷ a ∷ b ∷ c ∷ d ∷ []
 
 abbrev power : List ℕ
 power = 2 ∷ 0 ∷ 3 ∷ 0 ∷ []
 
-abbrev pub refusals : List (Call × List ℕ)
-refusals =
-    (prepare 1 (replicate 512 0) (replicate 16 0) (replicate 32 9), 0 ∷ 512 ∷ 0xFF ∷ [])
-    ∷ (prepare 5 [] [] [], 1 ∷ 0 ∷ [])
-    ∷ (prepare 1 (7 ∷ []) [] [], 2 ∷ 1 ∷ 7 ∷ [])
-    ∷ (prepare 1 (replicate 512 7) [] [], 3 ∷ 512 ∷ 7 ∷ [])
-    ∷ (prepare 1 (replicate 512 7) (replicate 16 0) [], 4 ∷ 512 ∷ 7 ∷ [])
-    ∷ (event 1 good (Event.Select false), 0 ∷ 2 ∷ [])
-    ∷ (event 0 noCells Event.Power, 1 ∷ 2 ∷ [])
-    ∷ (event 1 noCells Event.Power, 2 ∷ 2 ∷ [])
-    ∷ (event 1 noIdentification Event.Power, 3 ∷ 2 ∷ [])
-    ∷ (event 1 noLatch Event.Power, 4 ∷ 2 ∷ [])
-    ∷ (event 1 badMark Event.Power, 5 ∷ 2 ∷ [])
-    ∷ (event 1 unsound Event.Power, 5 ∷ 2 ∷ [])
-    ∷ (event 1 inCycle Event.Power, 11 ∷ 2 ∷ [])
-    ∷ (run 1 good (pin 4 ++ power) (8 ∷ 9 ∷ 9 ∷ []) 5, 0 ∷ 2 ∷ 9 ∷ 2 ∷ 2 ∷ 9 ∷ [])
-    ∷ (run 1 good (pin 4 ++ 1 ∷ []) (9 ∷ 9 ∷ []) 1, 0 ∷ 1 ∷ 5 ∷ 2 ∷ 9 ∷ [])
-    ∷ (run 9 noCells (1 ∷ []) [] 1, 1 ∷ 0 ∷ 0 ∷ [])
-    ∷ (run 1 noCells (1 ∷ []) [] 1, 2 ∷ 0 ∷ 0 ∷ [])
-    ∷ (run 1 noIdentification (1 ∷ []) [] 1, 3 ∷ 0 ∷ 0 ∷ [])
-    ∷ (run 1 noLatch (1 ∷ []) [] 1, 4 ∷ 0 ∷ 0 ∷ [])
-    ∷ (run 1 unsound [] [] 0, 5 ∷ 0 ∷ 0 ∷ [])
-    ∷ (run 1 good (pin 4 ++ 3 ∷ 0 ∷ 1 ∷ []) (9 ∷ 9 ∷ []) 2, 6 ∷ 1 ∷ 5 ∷ 2 ∷ 9 ∷ [])
-    ∷ (run 1 good (9 ∷ 0 ∷ 4 ∷ 0 ∷ []) [] 1, 7 ∷ 0 ∷ 0 ∷ [])
-    ∷ (run 1 good (9 ∷ 0 ∷ 1 ∷ 0 ∷ []) [] 1, 8 ∷ 0 ∷ 0 ∷ [])
-    ∷ (run 1 good (3 ∷ 0 ∷ 1 ∷ 0 ∷ []) [] 1, 6 ∷ 0 ∷ 0 ∷ [])
-    ∷ (run 1 good (pin 10) [] 1, 9 ∷ 0 ∷ 0 ∷ [])
-    ∷ (run 1 inCycle (pin 4 ++ power) (9 ∷ []) 2, 10 ∷ 1 ∷ 5 ∷ 2 ∷ [])
-    ∷ (run 1 inCycle (pin 4 ++ power) (9 ∷ 9 ∷ []) 2, 11 ∷ 1 ∷ 5 ∷ 2 ∷ 9 ∷ [])
-    ∷ (cellPage 1 (replicate 512 7) 511, 0 ∷ replicate 16 7)
-    ∷ (cellPage 0 [] 512, 1 ∷ [])
-    ∷ (cellPage 1 [] 512, 2 ∷ [])
-    ∷ (cellPage 1 (replicate 512 7) 512, 13 ∷ [])
-    ∷ (identificationPage 1 (replicate 16 7), 0 ∷ replicate 16 7)
-    ∷ (identificationPage 0 [], 1 ∷ [])
-    ∷ (identificationPage 1 [], 3 ∷ [])
-    ∷ (first (3 ∷ 0 ∷ 16 ∷ 0 ∷ 2 ∷ []), 0 ∷ 2 ∷ [])
-    ∷ (first (replicate 32_769 0), 12 ∷ 0 ∷ [])
-    ∷ (first (9 ∷ 0 ∷ 1 ∷ []), 6 ∷ 0 ∷ [])
-    ∷ (first (9 ∷ 0 ∷ 1 ∷ 0 ∷ 9 ∷ []), 7 ∷ 9 ∷ [])
-    ∷ (first (9 ∷ 0 ∷ 16 ∷ 0 ∷ []), 8 ∷ 0 ∷ [])
-    ∷ (first (3 ∷ 0 ∷ 16 ∷ 0 ∷ []), 6 ∷ 0 ∷ [])
-    ∷ (first (3 ∷ 0 ∷ 16 ∷ 0 ∷ 3 ∷ []), 1 ∷ 3 ∷ [])
-    ∷ []
+-- A trace taken to its end, and to its limit, behind which nothing is looked at.
+abbrev pub run-to-its-end : Line
+run-to-its-end = run 1 good (pin 4 ++ power) (8 ∷ 9 ∷ 9 ∷ []) 5 (progressOf 0 9 2 (withState (withPins (chosen .pins) preparedState) good) (2 ∷ 2 ∷ 9 ∷ []))
 
--- The theorem `refusals`: each call gives as expected.
-abbrev pub Given : Type 0
-Given = map (λ (l : Call × List ℕ). given (l .0)) refusals ≡ map (λ (l : Call × List ℕ). l .1) refusals
+abbrev pub run-to-its-limit : Line
+run-to-its-limit = run 1 good (pin 4 ++ 1 ∷ []) (9 ∷ 9 ∷ []) 1 (progressOf 0 5 1 (withState chosen good) (2 ∷ 9 ∷ []))
+
+-- Each pin by its number: C, D, S, HOLD and W, the first two set high and the others low.
+abbrev moved : State
+moved =
+    withPins (record { c = true; d = true; s = false; hold = false; w = false })
+    (withSelection 0 (record { selected = true; held = false; seen = true }) (preparedState .input) (preparedState .command) (preparedState .output) preparedState)
+
+abbrev pub run-each-pin : Line
+run-each-pin =
+    run 1 good (pin 1 ++ pin 3 ++ pin 4 ++ pin 6 ++ pin 8) (replicate 5 9) 5 (progressOf 0 25 5 (withState moved good) (replicate 5 2))
+
+-- A wait of 4999 microseconds leaves one; each of the upper bytes makes it long enough for any cycle. The latch marks its whole page.
+abbrev pub run-wait : Line
+run-wait = run 1 inCycle (wait 0x87 0x13 0 0) (9 ∷ []) 1 (progressOf 0 8 1 (withState (busy 1) good) (2 ∷ []))
+
+abbrev over : World
+over =
+    worldOf
+    (withStored (record { status = 0x0C; wel = false; locked = true }) (record { kind = Kind.None; next = 0x04 }) 496 0 preparedState)
+    (replicate 496 7 ++ replicate 16 1) (good .identification) (good .latch)
+
+abbrev pub run-wait-third-byte : Line
+run-wait-third-byte = run 1 inCycle (wait 0 0 1 0) (9 ∷ []) 1 (progressOf 0 8 1 over (2 ∷ []))
+
+abbrev pub run-wait-fourth-byte : Line
+run-wait-fourth-byte = run 1 inCycle (wait 0 0 0 1) (9 ∷ []) 1 (progressOf 0 8 1 over (2 ∷ []))
+
+-- An answer byte is Q's level: RDSR's top bit is 0 and its bit 1, WEL, is 1.
+abbrev sending : ℕ → State
+sending bits =
+    withPins (record { c = true; d = false; s = false; hold = true; w = true })
+    (withSelection 0 (chosen .selection) (record { bits = bits; value = 0; bytes = 1; last = 5 })
+    (record { instruction = Instruction.Rdsr; away = false }) (record { sending = 2; q = Level.Z })
+    (withStored (record { status = 0; wel = true; locked = false }) (preparedState .cycle) 0 0 preparedState))
+
+abbrev sent : ℕ → Level → State
+sent bits q =
+    withPins (chosen .pins)
+    (withSelection 0 (chosen .selection) (sending bits .input) (sending bits .command) (record { sending = 2; q = q }) (sending bits))
+
+abbrev pub run-answers-low : Line
+run-answers-low = run 1 (withState (sending 0) good) (pin 0) (9 ∷ []) 1 (progressOf 0 5 1 (withState (sent 0 Level.Low) good) (0 ∷ []))
+
+abbrev pub run-answers-high : Line
+run-answers-high = run 1 (withState (sending 6) good) (pin 0) (9 ∷ []) 1 (progressOf 0 5 1 (withState (sent 6 Level.High) good) (1 ∷ []))
+
+-- Refused with 1 to 5 a trace did nothing, whatever its records and its limit.
+abbrev nothing : ℕ → World → Progress
+nothing number w = progressOf number 0 0 w (9 ∷ [])
+
+abbrev pub run-device : Line
+run-device = run 9 noCells (1 ∷ []) (9 ∷ []) 1 (nothing 1 noCells)
+
+abbrev pub run-cells : Line
+run-cells = run 1 noCells (1 ∷ []) (9 ∷ []) 1 (nothing 2 noCells)
+
+abbrev pub run-identification : Line
+run-identification = run 1 noIdentification (pin 4) (9 ∷ []) 1 (nothing 3 noIdentification)
+
+abbrev pub run-latch : Line
+run-latch = run 1 noLatch (pin 4) (9 ∷ []) 1 (nothing 4 noLatch)
+
+abbrev pub run-mark : Line
+run-mark = run 1 badMark (pin 4) (9 ∷ []) 0 (nothing 5 badMark)
+
+-- Refused at a record: 6 for its first four bytes, 7, 8, 6 for its body, 9, 10, 11. The records before it are done, the answers behind it untouched.
+abbrev pub run-no-four-bytes : Line
+run-no-four-bytes = run 1 good (pin 4 ++ 3 ∷ 0 ∷ 1 ∷ []) (9 ∷ 9 ∷ []) 2 (progressOf 6 5 1 (withState chosen good) (2 ∷ 9 ∷ []))
+
+abbrev pub run-unknown-kind : Line
+run-unknown-kind = run 1 good (9 ∷ 0 ∷ 4 ∷ 0 ∷ []) (9 ∷ []) 1 (nothing 7 good)
+
+abbrev pub run-kind-of-two-bytes : Line
+run-kind-of-two-bytes = run 1 good (3 ∷ 0 ∷ 1 ∷ 1 ∷ 4 ∷ []) (9 ∷ []) 1 (nothing 7 good)
+
+abbrev pub run-wrong-length : Line
+run-wrong-length = run 1 good (9 ∷ 0 ∷ 1 ∷ 0 ∷ []) (9 ∷ []) 1 (nothing 8 good)
+
+abbrev pub run-length-of-two-bytes : Line
+run-length-of-two-bytes = run 1 good (3 ∷ 1 ∷ 1 ∷ 0 ∷ 4 ∷ []) (9 ∷ []) 1 (nothing 8 good)
+
+abbrev pub run-no-body : Line
+run-no-body = run 1 good (3 ∷ 0 ∷ 1 ∷ 0 ∷ []) [] 1 (progressOf 6 0 0 good [])
+
+abbrev pub run-no-pin : Line
+run-no-pin = run 1 good (pin 10) [] 1 (progressOf 9 0 0 good [])
+
+abbrev pub run-no-answer-left : Line
+run-no-answer-left = run 1 inCycle (pin 2 ++ power) (9 ∷ []) 2 (progressOf 10 5 1 inCycle (2 ∷ []))
+
+abbrev pub run-power-in-a-cycle : Line
+run-power-in-a-cycle = run 1 inCycle (pin 2 ++ power) (9 ∷ 9 ∷ []) 2 (progressOf 11 5 1 inCycle (2 ∷ 9 ∷ []))
+
+-- A page is shown, or an empty part: the cells' from its first address to its last.
+abbrev striped : List ℕ
+striped = replicate 32 1 ++ replicate 16 2 ++ replicate 464 3
+
+abbrev pub cell-page-first-address : Line
+cell-page-first-address = cellPage 1 striped 32 (shownAs 0 (replicate 16 2))
+
+abbrev pub cell-page-last-address : Line
+cell-page-last-address = cellPage 1 striped 47 (shownAs 0 (replicate 16 2))
+
+abbrev pub cell-page-device : Line
+cell-page-device = cellPage 0 [] 512 (shownAs 1 [])
+
+abbrev pub cell-page-cells : Line
+cell-page-cells = cellPage 1 [] 512 (shownAs 2 [])
+
+abbrev pub cell-page-past-the-cells : Line
+cell-page-past-the-cells = cellPage 1 striped 512 (shownAs 13 [])
+
+abbrev pub cell-page-of-the-last-cell : Line
+cell-page-of-the-last-cell = cellPage 1 striped 511 (shownAs 0 (replicate 16 3))
+
+abbrev pub identification-page-shown : Line
+identification-page-shown = identificationPage 1 (replicate 16 7) (shownAs 0 (replicate 16 7))
+
+abbrev pub identification-page-device : Line
+identification-page-device = identificationPage 0 [] (shownAs 1 [])
+
+abbrev pub identification-page-length : Line
+identification-page-length = identificationPage 1 [] (shownAs 3 [])
+
+-- The bench's first record: 12 before all else, then 6, 7, 8, 6, 1.
+abbrev pub first-taken : Line
+first-taken = first (3 ∷ 0 ∷ 16 ∷ 0 ∷ 2 ∷ []) (firstAs 0 2)
+
+abbrev pub first-too-long : Line
+first-too-long = first (replicate 32_769 0) (firstAs 12 0)
+
+abbrev pub first-of-32768-bytes : Line
+first-of-32768-bytes = first (3 ∷ 0 ∷ 16 ∷ 0 ∷ 1 ∷ replicate 32_763 0) (firstAs 0 1)
+
+abbrev pub first-no-four-bytes : Line
+first-no-four-bytes = first (9 ∷ 0 ∷ 1 ∷ []) (firstAs 6 0)
+
+abbrev pub first-other-kind : Line
+first-other-kind = first (9 ∷ 0 ∷ 1 ∷ 0 ∷ 9 ∷ []) (firstAs 7 9)
+
+abbrev pub first-other-length : Line
+first-other-length = first (9 ∷ 0 ∷ 16 ∷ 0 ∷ []) (firstAs 8 0)
+
+abbrev pub first-no-body : Line
+first-no-body = first (3 ∷ 0 ∷ 16 ∷ 0 ∷ []) (firstAs 6 0)
+
+abbrev pub first-device-three : Line
+first-device-three = first (3 ∷ 0 ∷ 16 ∷ 0 ∷ 3 ∷ []) (firstAs 1 3)
+
+abbrev pub first-device-zero : Line
+first-device-zero = first (3 ∷ 0 ∷ 16 ∷ 0 ∷ 0 ∷ []) (firstAs 1 0)
+
+abbrev pub refusals : List Line
+refusals =
+    prepare-taken ∷ prepare-device-five ∷ prepare-device-zero ∷ prepare-cells ∷ prepare-identification ∷ prepare-latch ∷ event-taken
+    ∷ event-device ∷ event-cells ∷ event-identification ∷ event-latch ∷ event-mark ∷ event-power-in-a-cycle ∷ run-to-its-end ∷ run-to-its-limit
+    ∷ run-each-pin ∷ run-wait ∷ run-wait-third-byte ∷ run-wait-fourth-byte ∷ run-answers-low ∷ run-answers-high ∷ run-device ∷ run-cells
+    ∷ run-identification ∷ run-latch ∷ run-mark ∷ run-no-four-bytes ∷ run-unknown-kind ∷ run-kind-of-two-bytes ∷ run-wrong-length
+    ∷ run-length-of-two-bytes ∷ run-no-body ∷ run-no-pin ∷ run-no-answer-left ∷ run-power-in-a-cycle ∷ cell-page-first-address
+    ∷ cell-page-last-address ∷ cell-page-device ∷ cell-page-cells ∷ cell-page-past-the-cells ∷ cell-page-of-the-last-cell
+    ∷ identification-page-shown ∷ identification-page-device ∷ identification-page-length ∷ first-taken ∷ first-too-long ∷ first-of-32768-bytes
+    ∷ first-no-four-bytes ∷ first-other-kind ∷ first-other-length ∷ first-no-body ∷ first-device-three ∷ first-device-zero ∷ []
+
+-- The theorem `refusals`: each call gives its whole outcome as expected.
+abbrev pub Given : List Line → Type 0
+Given lines = Each Gives lines

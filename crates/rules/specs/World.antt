@@ -61,3 +61,9 @@ withState s w = record { state = s; cells = w .cells; identification = w .identi
 
 abbrev pub withLatch : List ℕ → World → World
 withLatch l w = record { state = w .state; cells = w .cells; identification = w .identification; latch = l }
+
+-- What is said of each line of a table.
+infixr 5 _and_
+pub data Each {A : Type 0} (Says : A → Type 0) : List A → Type 0 where
+  none : Each Says []
+  _and_ : {line : A} {lines : List A} → Says line → Each Says lines → Each Says (line ∷ lines)

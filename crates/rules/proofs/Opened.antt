@@ -1,0 +1,21 @@
+-- What the tables compute with: a law that says `unfolding opened` sees through every rule from an event to what is stored, and
+-- one that says `unfolding calls` through those of the calls too.
+use Prim.Native.Nat.{ℕ}
+use Rattle.rules.specs.Device.{prepared}
+use Rattle.rules.specs.Instruction.{decode, longer}
+use Rattle.rules.specs.Receive.{rolled, addressAfter, latchAfter, risen, risenLatch}
+use Rattle.rules.specs.Send.{shownAddress, outputAfter, fallen}
+use Rattle.rules.specs.Judge.{isProtected, allows, isWhole, isDone, judged}
+use Rattle.rules.specs.Cycle.{written, waitedState, waited}
+use Rattle.rules.specs.Event.{react, step, next}
+use Rattle.rules.specs.Sound.{clauses, isSound}
+use Rattle.rules.specs.Trace.{eventAt, recordRefusal, turn}
+use Rattle.rules.specs.Call.{lentRefusal, worldRefusal, prepareOutcome, eventOutcome, runOutcome, cellPageOutcome, identificationPageOutcome, firstRecord}
+
+unfoldable pub opened : ℕ
+unfolding prepared decode longer rolled addressAfter latchAfter risen risenLatch shownAddress outputAfter fallen isProtected allows isWhole isDone judged written waitedState waited react step next
+opened = 0
+
+unfoldable pub calls : ℕ
+unfolding opened clauses isSound eventAt recordRefusal turn lentRefusal worldRefusal prepareOutcome eventOutcome runOutcome cellPageOutcome identificationPageOutcome firstRecord
+calls = 0

@@ -1,0 +1,118 @@
+-- 01, "The device's state", by example: each clause of soundness broken alone, which gets 5 and changes nothing; and a state at the edge of every
+-- clause, which is taken. Each line is an event on an M95040.
+use Rattle.rules.specs.World.{ℕ, Bool, true, false, List, [], _∷_, Instruction, Kind, Level, Event, State, withPins, withSelection, withStored, withState}
+use Rattle.rules.specs.Device.{preparedState}
+use Rattle.rules.specs.Call.{repliedAs}
+use Rattle.rules.specs.Refusals.{Line, event, good, busy, chosen}
+
+abbrev refused : State → Line
+refused s = event 1 (withState s good) (Event.Data true) (repliedAs 5 2 (withState s good))
+
+-- A chosen device that received so many bits, of this value, and so many bytes, and has this address.
+abbrev received : ℕ → ℕ → ℕ → ℕ → State
+received bits value bytes address =
+    withSelection address (chosen .selection) (record { bits = bits; value = value; bytes = bytes; last = 0 }) (chosen .command) (chosen .output) chosen
+
+abbrev pub eight-bits : Line
+eight-bits = refused (received 8 0 0 0)
+
+abbrev pub value-of-too-many-bits : Line
+value-of-too-many-bits = refused (received 3 8 0 0)
+
+abbrev pub seven-bytes : Line
+seven-bytes = refused (received 0 0 7 0)
+
+abbrev pub address-past-the-cells : Line
+address-past-the-cells = refused (received 0 0 0 512)
+
+-- Status bits, new ones, a cycle, its page start and its microseconds left.
+abbrev stored : ℕ → ℕ → Kind → ℕ → ℕ → State
+stored status next kind start left = withStored (record { status = status; wel = false; locked = false }) (record { kind = kind; next = next }) start left preparedState
+
+abbrev pub status-bit-of-no-device : Line
+status-bit-of-no-device = refused (stored 0x10 0 Kind.None 0 0)
+
+abbrev pub srwd-on-the-m95040 : Line
+srwd-on-the-m95040 = refused (stored 0x80 0 Kind.None 0 0)
+
+abbrev pub new-status-bit-of-no-device : Line
+new-status-bit-of-no-device = refused (stored 0 0x02 Kind.Status 0 5000)
+
+abbrev pub cycle-with-no-time : Line
+cycle-with-no-time = refused (stored 0 0 Kind.Array 0 0)
+
+abbrev pub cycle-with-too-much-time : Line
+cycle-with-too-much-time = refused (stored 0 0 Kind.Lock 0 5001)
+
+abbrev pub time-with-no-cycle : Line
+time-with-no-cycle = refused (stored 0 0 Kind.None 0 1)
+
+abbrev pub start-inside-a-page : Line
+start-inside-a-page = refused (stored 0 0 Kind.Array 8 5000)
+
+abbrev pub start-past-the-cells : Line
+start-past-the-cells = refused (stored 0 0 Kind.None 512 0)
+
+abbrev pub identification-cycle-elsewhere : Line
+identification-cycle-elsewhere = refused (stored 0 0 Kind.Identification 16 5000)
+
+-- Not selected, and yet held, with a bit, with a byte, or with a level at Q.
+abbrev resting : ℕ → ℕ → Level → State
+resting bits bytes q =
+    withSelection 0 (preparedState .selection) (record { bits = bits; value = 0; bytes = bytes; last = 0 }) (preparedState .command) (record { sending = 0; q = q })
+    preparedState
+
+abbrev pub held-and-not-selected : Line
+held-and-not-selected =
+    refused
+    (withSelection 0 (record { selected = false; held = true; seen = false }) (preparedState .input) (preparedState .command) (preparedState .output) preparedState)
+
+abbrev pub bit-and-not-selected : Line
+bit-and-not-selected = refused (resting 1 0 Level.Z)
+
+abbrev pub byte-and-not-selected : Line
+byte-and-not-selected = refused (resting 0 1 Level.Z)
+
+abbrev pub level-and-not-selected : Line
+level-and-not-selected = refused (resting 0 0 Level.High)
+
+-- Selected with S high, with W low and not seen, and with C low and hold at odds with HOLD.
+abbrev selecting : Bool → Bool → Bool → Bool → State
+selecting s hold w held =
+    withPins (record { c = false; d = false; s = s; hold = hold; w = w })
+    (withSelection 0 (record { selected = true; held = held; seen = false }) (chosen .input) (chosen .command) (chosen .output) chosen)
+
+abbrev pub selected-with-s-high : Line
+selected-with-s-high = refused (selecting true true true false)
+
+abbrev pub w-low-and-not-seen : Line
+w-low-and-not-seen = refused (selecting false true false false)
+
+abbrev pub held-with-hold-high : Line
+held-with-hold-high = refused (selecting false true true true)
+
+abbrev pub not-held-with-hold-low : Line
+not-held-with-hold-low = refused (selecting false false true false)
+
+-- In a cycle, with the code of READ in and not turned away.
+abbrev reading : State → Bool → State
+reading s away =
+    withSelection 511 (record { selected = true; held = true; seen = false }) (record { bits = 7; value = 127; bytes = 6; last = 0 })
+    (record { instruction = Instruction.Read; away = away }) (record { sending = 0; q = Level.Low })
+    (withPins (record { c = true; d = false; s = false; hold = true; w = true }) s)
+
+abbrev pub read-taken-in-a-cycle : Line
+read-taken-in-a-cycle = refused (reading (busy 5000) false)
+
+-- At every edge: seven bits of 1, six bytes, the last cell, the last page, all the write time; held with HOLD high while C is high.
+abbrev pub sound-at-its-edges : Line
+sound-at-its-edges =
+    event 1 (withState (reading (busy 5000) true) good) (Event.Clock true) (repliedAs 0 2 (withState (reading (busy 5000) true) good))
+
+abbrev pub unsound : List Line
+unsound =
+    eight-bits ∷ value-of-too-many-bits ∷ seven-bytes ∷ address-past-the-cells ∷ status-bit-of-no-device ∷ srwd-on-the-m95040
+    ∷ new-status-bit-of-no-device ∷ cycle-with-no-time ∷ cycle-with-too-much-time ∷ time-with-no-cycle ∷ start-inside-a-page
+    ∷ start-past-the-cells ∷ identification-cycle-elsewhere ∷ held-and-not-selected ∷ bit-and-not-selected ∷ byte-and-not-selected
+    ∷ level-and-not-selected ∷ selected-with-s-high ∷ w-low-and-not-seen ∷ held-with-hold-high ∷ not-held-with-hold-low ∷ read-taken-in-a-cycle
+    ∷ sound-at-its-edges ∷ []
