@@ -69,6 +69,10 @@ power-keeps-what-is-stored : Seen spec.power-keeps-what-is-stored
 unfolding opened
 power-keeps-what-is-stored = refl
 
+power-loses-a-command : Seen spec.power-loses-a-command
+unfolding opened
+power-loses-a-command = refl
+
 turned-away-to-the-end : Seen spec.turned-away-to-the-end
 unfolding opened
 turned-away-to-the-end = refl
@@ -88,6 +92,34 @@ wren-of-two-bytes = refl
 wrdi-exactly : Seen spec.wrdi-exactly
 unfolding opened
 wrdi-exactly = refl
+
+status-of-the-m95040 : Seen spec.status-of-the-m95040
+unfolding opened
+status-of-the-m95040 = refl
+
+status-of-the-m95m01 : Seen spec.status-of-the-m95m01
+unfolding opened
+status-of-the-m95m01 = refl
+
+status-of-the-m95m02 : Seen spec.status-of-the-m95m02
+unfolding opened
+status-of-the-m95m02 = refl
+
+upper-quarter-of-the-m95m01 : Seen spec.upper-quarter-of-the-m95m01
+unfolding opened
+upper-quarter-of-the-m95m01 = refl
+
+upper-quarter-of-the-m95m02 : Seen spec.upper-quarter-of-the-m95m02
+unfolding opened
+upper-quarter-of-the-m95m02 = refl
+
+identification-of-the-m95m01 : Seen spec.identification-of-the-m95m01
+unfolding opened
+identification-of-the-m95m01 = refl
+
+identification-of-the-m95m02 : Seen spec.identification-of-the-m95m02
+unfolding opened
+identification-of-the-m95m02 = refl
 
 protect-low-and-wren : Seen spec.protect-low-and-wren
 unfolding opened
@@ -143,11 +175,12 @@ lid-byte-not-latched = refl
 
 pub readings : Hold spec.readings
 readings =
-    write-in-a-cycle and select-low-after-power and protect-low-for-a-moment and select-low-again and clock-high-again
-    and clock-low-again and status-taken-with-its-top-bit and fall-that-starts-hold and fall-that-ends-hold and clocks-in-hold
-    and deselected-in-hold and deselected-in-hold-with-hold-high and deselected-with-hold-low and selected-with-hold-low
-    and power-resets-wel and power-keeps-what-is-stored and turned-away-to-the-end and code-complete-after-the-cycle
-    and wrdi-in-a-cycle and wren-of-two-bytes and wrdi-exactly and protect-low-and-wren and protect-low-and-wrsr
-    and protect-low-and-write and unknown-code and rdid-past-the-page and wrid-rolls and wrid-when-locked and wrid-with-all-protected
-    and lid-with-all-protected and marks-cleared-by-write and marks-cleared-by-82h and latch-without-wel and lid-byte-not-latched
-    and none
+    write-in-a-cycle and select-low-after-power and protect-low-for-a-moment and select-low-again and clock-high-again and clock-low-again
+    and status-taken-with-its-top-bit and fall-that-starts-hold and fall-that-ends-hold and clocks-in-hold and deselected-in-hold
+    and deselected-in-hold-with-hold-high and deselected-with-hold-low and selected-with-hold-low and power-resets-wel
+    and power-keeps-what-is-stored and power-loses-a-command and turned-away-to-the-end and code-complete-after-the-cycle and wrdi-in-a-cycle
+    and wren-of-two-bytes and wrdi-exactly and status-of-the-m95040 and status-of-the-m95m01 and status-of-the-m95m02
+    and upper-quarter-of-the-m95m01 and upper-quarter-of-the-m95m02 and identification-of-the-m95m01 and identification-of-the-m95m02
+    and protect-low-and-wren and protect-low-and-wrsr and protect-low-and-write and unknown-code and rdid-past-the-page and wrid-rolls
+    and wrid-when-locked and wrid-with-all-protected and lid-with-all-protected and marks-cleared-by-write and marks-cleared-by-82h
+    and latch-without-wel and lid-byte-not-latched and none

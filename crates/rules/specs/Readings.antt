@@ -1,7 +1,7 @@
 -- Rules that are easily misread, a line each, seen at the bench as the examples are: first 01's "Readings that look right and are not"
 -- that no example refutes, then edges, hold, power, cycles, and what each command asks for.
 use Rattle.rules.specs.World.{ℕ, true, false, List, [], _∷_, _++_, Event}
-use Rattle.rules.specs.Examples.{bitsIn, bytesIn, Act, send, ask, hears, events, output, cell, identity, latched, say, wren, status, full, rolls, Line}
+use Rattle.rules.specs.Examples.{bitsIn, bytesIn, Act, send, ask, hears, events, output, cell, identity, latched, say, wren, status, pause, full, rolls, Line}
 
 -- S falls and bytes go in, and the selection goes on; S rises; the clock up and down.
 abbrev begins : List ℕ → Act
@@ -108,6 +108,10 @@ power-keeps-what-is-stored = (
   0x84 ∷ 0x01 ∷ 0x01 ∷ [],
 )
 
+-- Power loses a complete command.
+abbrev pub power-loses-a-command : Line
+power-loses-a-command = (2, wren ∷ begins (0x02 ∷ 0x00 ∷ 0x05 ∷ 0x66 ∷ []) ∷ events (Event.Power ∷ []) ∷ ends ∷ full ∷ cell 5 ∷ [], 0xFF ∷ [])
+
 -- A READ turned away in a cycle stays so when the cycle ends in its selection; one whose code is complete after that is taken.
 abbrev pub turned-away-to-the-end : Line
 turned-away-to-the-end = (2, wren ∷ rolls ∷ begins (0x03 ∷ []) ∷ full ∷ events (bytesIn (0x00 ∷ 0x3E ∷ [])) ∷ hears 8 ∷ ends ∷ cell 0x3E ∷ [], silence ∷ 0xA1 ∷ [])
@@ -126,6 +130,48 @@ wren-of-two-bytes = (1, say (0x06 ∷ 0x06 ∷ []) ∷ status ∷ [], 0x00 ∷ [
 
 abbrev pub wrdi-exactly : Line
 wrdi-exactly = (2, wren ∷ send (0x04 ∷ []) 1 ∷ status ∷ say (0x04 ∷ []) ∷ status ∷ [], 0x02 ∷ 0x00 ∷ [])
+
+-- Of a status byte FFh each device stores the bits that it has, after its write time.
+abbrev pub status-of-the-m95040 : Line
+status-of-the-m95040 = (1, wren ∷ say (0x01 ∷ 0xFF ∷ []) ∷ pause 4999 ∷ status ∷ pause 1 ∷ status ∷ [], 0x03 ∷ 0x0C ∷ [])
+
+abbrev pub status-of-the-m95m01 : Line
+status-of-the-m95m01 = (3, wren ∷ say (0x01 ∷ 0xFF ∷ []) ∷ pause 3999 ∷ status ∷ pause 1 ∷ status ∷ [], 0x03 ∷ 0x8C ∷ [])
+
+abbrev pub status-of-the-m95m02 : Line
+status-of-the-m95m02 = (4, wren ∷ say (0x01 ∷ 0xFF ∷ []) ∷ pause 4999 ∷ status ∷ pause 1 ∷ status ∷ [], 0x03 ∷ 0x8C ∷ [])
+
+-- With BP 01 the first protected cell of the larger devices, and the one before it, whose WRITE starts a cycle.
+abbrev pub upper-quarter-of-the-m95m01 : Line
+upper-quarter-of-the-m95m01 = (
+  3,
+  wren ∷ say (0x01 ∷ 0x04 ∷ []) ∷ full ∷ wren ∷ say (0x02 ∷ 0x01 ∷ 0x80 ∷ 0x00 ∷ 0x77 ∷ []) ∷ status
+      ∷ say (0x02 ∷ 0x01 ∷ 0x7F ∷ 0xFF ∷ 0x77 ∷ []) ∷ status ∷ [],
+  0x06 ∷ 0x07 ∷ [],
+)
+
+abbrev pub upper-quarter-of-the-m95m02 : Line
+upper-quarter-of-the-m95m02 = (
+  4,
+  wren ∷ say (0x01 ∷ 0x04 ∷ []) ∷ full ∷ wren ∷ say (0x02 ∷ 0x03 ∷ 0x00 ∷ 0x00 ∷ 0x77 ∷ []) ∷ status
+      ∷ say (0x02 ∷ 0x02 ∷ 0xFF ∷ 0xFF ∷ 0x77 ∷ []) ∷ status ∷ [],
+  0x06 ∷ 0x07 ∷ [],
+)
+
+-- Their identification pages: ST's code on the M95M02 only, and a write that rolls round from the last of 256 bytes.
+abbrev pub identification-of-the-m95m01 : Line
+identification-of-the-m95m01 = (
+  3,
+  ask (0x83 ∷ 0x00 ∷ 0x00 ∷ 0x00 ∷ []) 3 ∷ wren ∷ say (0x82 ∷ 0x00 ∷ 0x00 ∷ 0xFF ∷ 0x77 ∷ 0x88 ∷ []) ∷ full ∷ identity 255 ∷ identity 0 ∷ [],
+  0xFF ∷ 0xFF ∷ 0xFF ∷ 0x77 ∷ 0x88 ∷ [],
+)
+
+abbrev pub identification-of-the-m95m02 : Line
+identification-of-the-m95m02 = (
+  4,
+  ask (0x83 ∷ 0x00 ∷ 0x00 ∷ 0x00 ∷ []) 3 ∷ wren ∷ say (0x82 ∷ 0x00 ∷ 0x00 ∷ 0xFF ∷ 0x77 ∷ 0x88 ∷ []) ∷ full ∷ identity 255 ∷ identity 0 ∷ [],
+  0x20 ∷ 0x00 ∷ 0x12 ∷ 0x77 ∷ 0x88 ∷ [],
+)
 
 -- W low on the M95040 neither stops WREN nor takes WEL back; it stops WRSR, whatever SRWD, and WRITE.
 abbrev pub protect-low-and-wren : Line
@@ -186,7 +232,8 @@ readings =
     write-in-a-cycle ∷ select-low-after-power ∷ protect-low-for-a-moment ∷ select-low-again ∷ clock-high-again ∷ clock-low-again
     ∷ status-taken-with-its-top-bit ∷ fall-that-starts-hold ∷ fall-that-ends-hold ∷ clocks-in-hold ∷ deselected-in-hold
     ∷ deselected-in-hold-with-hold-high ∷ deselected-with-hold-low ∷ selected-with-hold-low ∷ power-resets-wel ∷ power-keeps-what-is-stored
-    ∷ turned-away-to-the-end ∷ code-complete-after-the-cycle ∷ wrdi-in-a-cycle ∷ wren-of-two-bytes ∷ wrdi-exactly ∷ protect-low-and-wren
-    ∷ protect-low-and-wrsr ∷ protect-low-and-write ∷ unknown-code ∷ rdid-past-the-page ∷ wrid-rolls ∷ wrid-when-locked
-    ∷ wrid-with-all-protected ∷ lid-with-all-protected ∷ marks-cleared-by-write ∷ marks-cleared-by-82h ∷ latch-without-wel
-    ∷ lid-byte-not-latched ∷ []
+    ∷ power-loses-a-command ∷ turned-away-to-the-end ∷ code-complete-after-the-cycle ∷ wrdi-in-a-cycle ∷ wren-of-two-bytes ∷ wrdi-exactly
+    ∷ status-of-the-m95040 ∷ status-of-the-m95m01 ∷ status-of-the-m95m02 ∷ upper-quarter-of-the-m95m01 ∷ upper-quarter-of-the-m95m02
+    ∷ identification-of-the-m95m01 ∷ identification-of-the-m95m02 ∷ protect-low-and-wren ∷ protect-low-and-wrsr ∷ protect-low-and-write
+    ∷ unknown-code ∷ rdid-past-the-page ∷ wrid-rolls ∷ wrid-when-locked ∷ wrid-with-all-protected ∷ lid-with-all-protected
+    ∷ marks-cleared-by-write ∷ marks-cleared-by-82h ∷ latch-without-wel ∷ lid-byte-not-latched ∷ []
