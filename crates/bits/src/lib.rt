@@ -1,4 +1,4 @@
-// Masks and shifts that split and rebuild the status byte, codes, addresses and the numbers of a record. Each is tied to the
+// Bits by mask and shift: of codes, addresses, the status byte and the numbers of a record, taken apart and put together. Each is tied to the
 // arithmetic of the rules by a law over the width (proofs/Masks.antt).
 
 ghost use mathlib.Core.Path.{_≡_};

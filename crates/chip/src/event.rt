@@ -42,7 +42,7 @@ pub fn settle(s: State) -> State
     t
 }
 
-// Selected, nothing received, W seen low exactly if it is low.
+// A selection begins: all that came in before is gone, and W counts as seen low if it is low now.
 pub fn select(s: State) -> State
     ensures { λ r. ⌜ r ≡ selected s ⌝ }
 {

@@ -40,7 +40,7 @@ pub fn received_sound(row: Row, s: State) -> bool
     ((s.input.value as usize) < limit) & (s.input.bytes <= 6) & (s.place.address < row.cells)
 }
 
-// Time left is 1 to the write time in a cycle, else 0.
+// A running cycle has some of its write time left; where none runs there is no time left.
 pub fn time_sound(row: Row, s: State) -> bool
     ensures { λ r. ⌜ r ≡ (if busy s then leb 1 (s .place .left) && leb (s .place .left) (row .time) else eqb (s .place .left) 0) ⌝ }
 {

@@ -14,7 +14,7 @@ lentRefusal device cells identification latch =
     else if not (eqb (length latch) (rowOf device .page + rowOf device .page)) then 4
     else 0
 
--- 5 then: the state not sound, or a mark not 0 or 1.
+-- 5 then: a state that is not sound, or a mark above 1.
 unfoldable pub worldRefusal : ℕ → World → ℕ
 worldRefusal device w =
     let n = lentRefusal device (w .cells) (w .identification) (w .latch) in

@@ -9,7 +9,7 @@ written (suc n) page latch a bytes =
     let before = written n page latch a bytes in
     if eqb (getD latch (page + n) 0) 1 then set before (a + n) (getD latch n 0) else before
 
--- Time left falls by the wait, to no less than 0. On reaching 0 the cycle's change is made, and WEL becomes 0.
+-- A wait takes its microseconds from those left and stops at none. That is where a cycle ends: its change is made, and WEL is reset.
 abbrev pub ends : ℕ → State → Bool
 ends n s = busy s && leb (s .place .left) n
 

@@ -16,7 +16,7 @@ pinsAfter (Event.Protect b) p = record { c = p .c; d = p .d; s = p .s; hold = p 
 pinsAfter (Event.Wait n) p = p
 pinsAfter Event.Power p = p
 
--- Selected, nothing received, W seen low exactly if it is low.
+-- A selection begins: nothing has come in yet, and W counts as seen low if it is low now.
 abbrev pub selected : State → State
 selected s =
     withSelection 0 (record { selected = true; held = false; seen = not (s .pins .w) }) (record { bits = 0; value = 0; bytes = 0; last = 0 })
@@ -59,7 +59,7 @@ react row (Event.Protect false) w = withState (sawLow (w .state)) w
 react row (Event.Wait n) w = waited row n w
 react row Event.Power w = withState (powered (w .state)) w
 
--- Hold: after each event, while selected and C low, held exactly if HOLD is low; while C is high, unchanged.
+-- Hold, looked at when an event is over: in a selection HOLD decides while C is low, and nothing changes while C is high.
 abbrev pub settled : State → State
 settled s =
     let x = s .selection in

@@ -56,7 +56,7 @@ holdsLatch k = changes k .cells || changes k .identification
 abbrev pub latches : Instruction → Bool
 latches i = holdsLatch (facts i .starts)
 
--- During a cycle only RDSR and WRDI are taken; judged as the code's eighth bit comes in.
+-- A running cycle lets RDSR and WRDI in and turns all others away; that is decided as the code's eighth bit comes in.
 abbrev pub turnedAway : State → Instruction → Bool
 turnedAway s i = busy s && not (facts i .taken)
 

@@ -1,4 +1,4 @@
--- 01, "Instructions", judged at the rise of S and done only if all holds; and what starts.
+-- 01, "Instructions", what the rise of S decides: whether a command has all that it asks for, and what then starts.
 use Rattle.rules.specs.World.{ℕ, _+_, _-_, _*_, _/_, _%_, Bool, not, _&&_, _||_, eqb, leb, ltb, if_then_else_, bit, number, Row, Kind, State, withStored}
 use Rattle.rules.specs.Device.{single}
 use Rattle.rules.specs.Instruction.{facts, changes}

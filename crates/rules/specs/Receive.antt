@@ -38,7 +38,7 @@ addressAfter row b s =
     else if isLatched row s then rolled row (s .place .address)
     else s .place .address
 
--- The codes of WRITE and 82h clear the marks when taken. A data byte goes to its place in the page, and its mark is set.
+-- A code that brings data for the latch clears the marks as it is taken. A data byte goes to its place in the page, and its mark is set.
 abbrev pub cleared : Row → List ℕ → List ℕ
 cleared row l = take (row .page) l ++ replicate (row .page) 0
 

@@ -13,7 +13,7 @@ four t at = two t at + two t (at + 2) * 65_536
 abbrev pub lengthOf : ℕ → ℕ
 lengthOf kind = getD (0 ∷ 3 ∷ 6 ∷ 2 ∷ []) kind 0
 
--- A pin byte: twice the pin number plus the level.
+-- A pin byte: the pin in the upper bits, its new level in bit 0.
 abbrev pub pinEvent : ℕ → Event
 pinEvent p =
     if eqb (p / 2) 0 then Event.Clock (bit p 0)

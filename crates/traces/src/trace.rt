@@ -32,7 +32,7 @@ pub fn length_of(kind: usize) -> usize
     }
 }
 
-// A pin byte: twice the pin number plus the level.
+// A pin byte: the pin in the upper bits, its new level in bit 0.
 pub fn pin_event(byte: u8) -> Event
     ensures { λ r. ⌜ r ≡ pinEvent byte ⌝ }
 {

@@ -179,7 +179,7 @@ pub fn address_after(row: Row, s: State, byte: u8) -> usize
     address
 }
 
-// The codes of WRITE and 82h clear the marks, unless they are turned away.
+// A code that brings data for the latch clears the marks, unless it is turned away.
 pub fn code_clears(row: Row, s: State, byte: u8) -> bool
     ensures { λ r. ⌜ r ≡ clears row byte s ⌝ }
 {

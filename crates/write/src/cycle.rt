@@ -12,7 +12,7 @@ use rules::Registers;
 use rules::Row;
 use rules::State;
 
-// Time left falls by the wait, to no less than 0.
+// A wait takes its microseconds from those left, and stops at none.
 pub fn less(left: usize, wait: usize) -> usize
     ensures { λ r. ⌜ r ≡ left - wait ⌝ }
 {
