@@ -11,6 +11,7 @@ pub mod Preserved
 pub mod Received
 pub mod Program
 pub mod Printed
+pub mod Recorded
 pub mod Refusals
 pub mod Unsound
 pub mod Runs

@@ -1,17 +1,20 @@
 -- The theorem `bench-uncut`: neither the limit nor the room for answers ends the bench's run.
 use Prim.Native.Nat.{ℕ, _+_}
-use mathlib.Core.Path.{_≡_, sym, subst}
-use mathlib.Core.Bool.{true}
+use mathlib.Core.Path.{_≡_, sym, ap, _∙_, subst}
+use mathlib.Core.Bool.{true, not}
 use mathlib.Core.List.{List}
 use native.Mathlib.Nat.{le-refl}
+use native.Mathlib.Omega.{arith}
 use lib.ListN.{length, replicate, length-replicate}
-use borrow.Author.Tests.{eq-eqb}
+use lib.Dec.{eqb}
+use borrow.Author.Tests.{eqb-true, eq-eqb, not-false}
 use Rattle.rules.specs.World.{World}
 use Rattle.rules.specs.Device.{isDevice, rowOf, prepared}
 use Rattle.rules.specs.Sound.{Sound, Lent}
 use Rattle.rules.specs.Trace.{progressOf, run}
 use Rattle.rules.specs.Call.{lentRefusal, worldRefusal, runOutcome}
 use Rattle.rules.specs.Program as spec
+use Rattle.rules.proofs.Choice.{if-elim, clash}
 use Rattle.rules.proofs.Incident.{prepared-sound, prepared-lent}
 use Rattle.rules.proofs.Runs.{Course, course, uncut}
 use Rattle.rules.proofs.Soundness.{reads}
@@ -23,6 +26,40 @@ unfolding worldRefusal lentRefusal
 world-taken device w d s l =
     let row = rowOf device in
     rw (d, eq-eqb (length (w .cells)) (row .cells) (l .cells), eq-eqb (length (w .identification)) (row .page) (l .identification), eq-eqb (length (w .latch)) (row .page + row .page) (l .latch), reads row w .1 s)
+
+-- And a world that is not refused is of a device, has buffers of its lengths, and is sound.
+module _ (device : ℕ) (w : World) where
+  pub lent-facts : lentRefusal device (w .cells) (w .identification) (w .latch) ≡ 0 → (isDevice device ≡ true) × Lent (rowOf device) w
+  unfolding lentRefusal
+  lent-facts =
+      let row = rowOf device in
+      let rightCells = eqb (length (w .cells)) (row .cells) in
+      let rightPage = eqb (length (w .identification)) (row .page) in
+      let rightLatch = eqb (length (w .latch)) (row .page + row .page) in
+      let P : ℕ → Type 0 = λ (n : ℕ). n ≡ 0 → (isDevice device ≡ true) × Lent row w in
+      if-elim P (not (isDevice device)) (λ _ e. absurd (omega arith))
+      (λ d. if-elim P (not rightCells) (λ _ e. absurd (omega arith))
+      (λ c. if-elim P (not rightPage) (λ _ e. absurd (omega arith))
+      (λ i. if-elim P (not rightLatch) (λ _ e. absurd (omega arith))
+      (λ l _. (
+        not-false (isDevice device) d,
+        record {
+          cells = eqb-true (length (w .cells)) (row .cells) (not-false rightCells c);
+          identification = eqb-true (length (w .identification)) (row .page) (not-false rightPage i);
+          latch = eqb-true (length (w .latch)) (row .page + row .page) (not-false rightLatch l);
+        },
+      )))))
+
+  pub world-facts : worldRefusal device w ≡ 0 → (isDevice device ≡ true) × Sound (rowOf device) w × Lent (rowOf device) w
+  unfolding worldRefusal
+  world-facts =
+      let row = rowOf device in
+      let n = lentRefusal device (w .cells) (w .identification) (w .latch) in
+      let sound = isSound row (w .state) (w .latch) in
+      let P : ℕ → Type 0 = λ (m : ℕ). m ≡ 0 → (isDevice device ≡ true) × Sound row w × Lent row w in
+      if-elim P (not (eqb n 0)) (λ h e. clash (sym h ∙ ap not (eq-eqb n 0 e)))
+      (λ h. if-elim P (not sound) (λ _ e. absurd (omega arith))
+      (λ s _. let lent = lent-facts (eqb-true n 0 (not-false (eqb n 0) h)) in (lent .0, reads row w .0 (not-false sound s), lent .1)))
 
 -- The bench's run is a run of its whole trace.
 module _ (device : ℕ) (trace : List ℕ) (d : isDevice device ≡ true) where

@@ -14,5 +14,6 @@ pub mod Program
 pub mod Examples
 pub mod Readings
 pub mod Selections
+pub mod Recorded
 pub mod Refusals
 pub mod Unsound

@@ -74,12 +74,15 @@ heardLeft done t = []
 heardLeft {row} (keep e c) t = visible row e t ∷ heardLeft c (next row e t)
 heardLeft {row} (drop {kept = kept} o s i b c) t = heardLeft c (after row kept t)
 
--- The theorem `demand-3`: from the end of such a selection on nothing that anyone can see differs, then or after any later events.
-abbrev pub Demand3 : Type 0
-Demand3 =
-    (row : Row) → Widths row → (w : World) → Sound row w → Lent row w → (es ks : List Event) (c : Cut row w es ks)
-    → (heard c ≡ heardLeft c w) × (contents (after row es w) ≡ contents (after row ks w))
+-- From the end of such a selection on nothing that anyone can see differs, then or after any later events.
+abbrev pub Unseen : {row : Row} {w : World} {es ks : List Event} → Cut row w es ks → Type 0
+Unseen {row} {w} {es} {ks} c =
+    (heard c ≡ heardLeft c w) × (contents (after row es w) ≡ contents (after row ks w))
     × ((later : List Event) → sights row later (after row es w) ≡ sights row later (after row ks w))
+
+-- The theorem `demand-3`.
+abbrev pub Demand3 : Type 0
+Demand3 = (row : Row) → Widths row → (w : World) → Sound row w → Lent row w → (es ks : List Event) (c : Cut row w es ks) → Unseen c
 
 -- The incident: WREN, a WRITE to the M95128 with one clock too many, then a READ; and the same with that WRITE's Chip Select events taken out.
 abbrev pub enabling : List Event
