@@ -13,7 +13,7 @@ use Rattle.rules.specs.Judge.{storable}
 use Rattle.rules.specs.Event.{next, after}
 use Rattle.rules.specs.Sound.{Sound, Lent}
 use Rattle.rules.specs.Examples.{bitsIn}
-use Rattle.rules.specs.Selections.{Broken, rises, Inside, end, clock, input, Cut, done, keep, drop, enabling, bounced, reading, Incident, heard, heardLeft, contents}
+use Rattle.rules.specs.Selections.{Broken, rises, Inside, end, clock, input, Cut, done, keep, drop, enabling, bounced, reading, happened, remaining, Incident, heard, heardLeft, contents}
 use Rattle.rules.proofs.Choice.{clash}
 use Rattle.rules.proofs.Widths.{page-below, of-device}
 use Rattle.rules.proofs.Latch.{zeros}
@@ -98,8 +98,8 @@ incident =
 pub incident-unseen :
     let w = prepared m95128 in
     (heard incident ≡ heardLeft incident w)
-    × (contents (after m95128 (enabling ++ Event.Select false ∷ bounced ++ Event.Select true ∷ reading) w) ≡ contents (after m95128 (enabling ++ bounced ++ reading) w))
+    × (contents (after m95128 happened w) ≡ contents (after m95128 remaining w))
 incident-unseen =
     let v = of-device 2 in
-    let r = demand-3 m95128 v (prepared m95128) (prepared-sound v) (prepared-lent v) (enabling ++ Event.Select false ∷ bounced ++ Event.Select true ∷ reading) (enabling ++ bounced ++ reading) incident in
+    let r = demand-3 m95128 v (prepared m95128) (prepared-sound v) (prepared-lent v) happened remaining incident in
     (r .0, r .1)

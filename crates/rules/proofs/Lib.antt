@@ -1,11 +1,13 @@
 -- The theorems on the rules, and the laws that they rest on.
 pub mod Choice
 pub mod Opened
+pub mod Encoded
 pub mod Examples
 pub mod Readings
 pub mod Incident
 pub mod Inside
 pub mod Latch
+pub mod Lookalike
 pub mod Pieces
 pub mod Preserved
 pub mod Received

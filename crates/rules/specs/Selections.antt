@@ -94,5 +94,11 @@ bounced = bytesIn (0x02 ∷ 0x00 ∷ 0x05 ∷ 0x66 ∷ []) ++ bitsIn 1 0
 abbrev pub reading : List Event
 reading = Event.Wait 5000 ∷ Event.Select false ∷ bytesIn (0x03 ∷ 0x00 ∷ 0x05 ∷ 0x00 ∷ []) ++ Event.Select true ∷ []
 
+abbrev pub happened : List Event
+happened = enabling ++ Event.Select false ∷ bounced ++ Event.Select true ∷ reading
+
+abbrev pub remaining : List Event
+remaining = enabling ++ bounced ++ reading
+
 abbrev pub Incident : Type 0
-Incident = Cut m95128 (prepared m95128) (enabling ++ Event.Select false ∷ bounced ++ Event.Select true ∷ reading) (enabling ++ bounced ++ reading)
+Incident = Cut m95128 (prepared m95128) happened remaining
