@@ -6,7 +6,7 @@ use Rattle.rules.specs.Trace.{Progress}
 use Rattle.rules.specs.Call.{worldRefusal, runOutcome}
 use Rattle.rules.specs.Selections.{Contents, contents, sights, Cut, Unseen, happened, remaining, Incident}
 
--- The theorem `demand-3-devices`.
+-- The theorem `demand-3-devices`: 0 says that there is such a device, that the buffers have its lengths and that the state is sound, so no more is asked.
 abbrev pub Demand3Devices : Type 0
 Demand3Devices = (device : ℕ) (w : World) → worldRefusal device w ≡ 0 → (es ks : List Event) (c : Cut (rowOf device) w es ks) → Unseen c
 
@@ -35,7 +35,7 @@ abbrev pub recorded : List Event → List ℕ
 recorded [] = []
 recorded (e ∷ es) = encoded e ++ recorded es
 
--- A wait must go into its four bytes.
+-- Four bytes hold a wait; every other event has a record.
 abbrev pub fits : Event → Bool
 fits (Event.Clock b) = true
 fits (Event.Data b) = true
@@ -50,7 +50,7 @@ abbrev pub runnable : Row → List Event → World → Bool
 runnable row [] w = true
 runnable row (e ∷ es) w = fits e && eqb (refusal e (w .state)) 0 && runnable row es (next row e w)
 
--- A run that did so: no refusal, every byte taken, every record done.
+-- A run that did them all: no refusal, every byte taken, every record done.
 pub record Ended (es : List Event) (p : Progress) : Type 0 where
   pub unrefused : p .number ≡ 0
   pub taken : p .taken ≡ length (recorded es)
@@ -94,7 +94,7 @@ Demand3Run =
     → (answers : List ℕ) (limit : ℕ) → length es ≤ length answers → length es ≤ limit
     → Alike device c (runOutcome device w (recorded es) answers limit) (runOutcome device w (recorded ks) answers limit)
 
--- The theorem `incident-run`: the incident's traces, of 226 records and of 224, meet all that is asked.
+-- The theorem `incident-run`: the incident's traces, of 226 records and of 224, meet all that is asked, so nobody can tell their runs apart.
 abbrev pub IncidentRun : Incident → Type 0
 IncidentRun c =
     (answers : List ℕ) (limit : ℕ) → 226 ≤ length answers → 226 ≤ limit
