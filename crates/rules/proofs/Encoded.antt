@@ -1,19 +1,20 @@
--- Laws on the record of an event, and how the run of recorded events ends.
-use Prim.Native.Nat.{ℕ, zero, suc, _+_, _≤_}
+-- Laws on the record of an event, how the run of recorded events ends, and the theorem `recorded-bytes`.
+use Prim.Native.Nat.{ℕ, zero, suc, _+_, _/_, _%_, _≤_}
 use mathlib.Core.Path.{_≡_, refl, sym, ap, ap₂, _∙_, subst}
 use mathlib.Core.Bool.{Bool, true, false, _&&_}
 use mathlib.Core.List.{List, [], _∷_, _++_, map}
 use native.Mathlib.Omega.{arith}
 use lib.ListN.{drop, length, length-append}
 use lib.Seq.{drop-append-seam}
-use lib.Dec.{eqb, leb}
-use borrow.Author.Tests.{eqb-true, eq-eqb, lt-leb, ltb-true}
+use lib.Dec.{eqb, leb, ltb}
+use borrow.Author.Tests.{eqb-true, eq-eqb, lt-leb, lt-ltb, ltb-true}
 use Rattle.rules.specs.World.{Row, Event, State, World}
 use Rattle.rules.specs.Event.{answer, refusal, step, next, after}
+use Rattle.rules.specs.Sound.{all}
 use Rattle.rules.specs.Trace.{two, eventAt, recordRefusal, answerByte, Progress, progressOf, run, glued}
 use Rattle.rules.specs.Selections.{Visible, visible, sights}
-use Rattle.rules.specs.Recorded.{encoded, recorded, fits, runnable}
-use Rattle.rules.proofs.Choice.{if-yes, and-left, and-right}
+use Rattle.rules.specs.Recorded.{bytesOf, encoded, recorded, RecordedBytes, fits, runnable}
+use Rattle.rules.proofs.Choice.{if-yes, and-left, and-right, and-both}
 use Rattle.rules.proofs.Pieces.{pieces}
 use Rattle.rules.proofs.Runs.{turn-over, turn-does, run-stays}
 
@@ -103,3 +104,33 @@ run-recorded row (e ∷ es) w (a ∷ answers) (suc limit) r room long =
     ∙ ap (λ (t : List ℕ). glued one (run limit row t (progressOf 0 0 0 u answers))) (drop-append-seam (encoded e) (recorded es))
     ∙ ap (glued one) (run-recorded row es u answers limit (rest-runs row e es w r) (omega arith) (omega arith))
     ∙ ap₂ (λ (n k : ℕ). progressOf 0 n k (after row es u) (byte ∷ rest)) (sym (length-append (encoded e) (recorded es))) counted
+
+-- Every number in a record is a byte.
+abbrev areBytes : List ℕ → Bool
+areBytes l = all (map (λ (b : ℕ). ltb b 256) l)
+
+joined-bytes : (a b : List ℕ) → areBytes a ≡ true → areBytes b ≡ true → areBytes (a ++ b) ≡ true
+joined-bytes [] b ha hb = hb
+joined-bytes (x ∷ a) b ha hb = and-both (ltb x 256) (areBytes (a ++ b)) (and-left (ltb x 256) (areBytes a) ha) (joined-bytes a b (and-right (ltb x 256) (areBytes a) ha) hb)
+
+number-bytes : (k n : ℕ) → areBytes (bytesOf k n) ≡ true
+number-bytes zero n = refl
+number-bytes (suc k) n = and-both (ltb (n % 256) 256) (areBytes (bytesOf k (n / 256))) (lt-ltb (n % 256) 256 (omega arith)) (number-bytes k (n / 256))
+
+encoded-bytes : (e : Event) → areBytes (encoded e) ≡ true
+encoded-bytes (Event.Clock true) = refl
+encoded-bytes (Event.Clock false) = refl
+encoded-bytes (Event.Data true) = refl
+encoded-bytes (Event.Data false) = refl
+encoded-bytes (Event.Select true) = refl
+encoded-bytes (Event.Select false) = refl
+encoded-bytes (Event.Hold true) = refl
+encoded-bytes (Event.Hold false) = refl
+encoded-bytes (Event.Protect true) = refl
+encoded-bytes (Event.Protect false) = refl
+encoded-bytes (Event.Wait n) = number-bytes 4 n
+encoded-bytes Event.Power = refl
+
+pub recorded-bytes : RecordedBytes
+recorded-bytes [] = refl
+recorded-bytes (e ∷ es) = joined-bytes (encoded e) (recorded es) (encoded-bytes e) (recorded-bytes es)

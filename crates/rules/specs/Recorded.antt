@@ -1,7 +1,8 @@
 -- Demand 3 said for the product: for every device number, from every world that the public calls take; and for traces that the public call runs.
-use Rattle.rules.specs.World.{ℕ, zero, suc, _+_, _*_, _/_, _%_, _≤_, _≡_, Bool, true, _&&_, List, [], _∷_, _++_, take, drop, length, eqb, ltb, number, Row, Event, World}
+use Rattle.rules.specs.World.{ℕ, zero, suc, _+_, _*_, _/_, _%_, _≤_, _≡_, Bool, true, _&&_, List, [], _∷_, _++_, map, take, drop, length, eqb, ltb, number, Row, Event, World}
 use Rattle.rules.specs.Device.{m95128, rowOf, prepared}
 use Rattle.rules.specs.Event.{refusal, next}
+use Rattle.rules.specs.Sound.{all}
 use Rattle.rules.specs.Trace.{Progress}
 use Rattle.rules.specs.Call.{worldRefusal, runOutcome}
 use Rattle.rules.specs.Selections.{Contents, contents, sights, Cut, Unseen, happened, remaining, Incident}
@@ -34,6 +35,10 @@ encoded Event.Power = recordOf 3 []
 abbrev pub recorded : List Event → List ℕ
 recorded [] = []
 recorded (e ∷ es) = encoded e ++ recorded es
+
+-- The theorem `recorded-bytes`: every number in it is a byte, so that the public call can be handed it.
+abbrev pub RecordedBytes : Type 0
+RecordedBytes = (es : List Event) → all (map (λ (b : ℕ). ltb b 256) (recorded es)) ≡ true
 
 -- Four bytes hold a wait; every other event has a record.
 abbrev pub fits : Event → Bool
