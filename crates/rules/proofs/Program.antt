@@ -1,4 +1,4 @@
--- The theorem `bench-uncut`: neither the limit nor the room for answers ends the bench's run.
+-- The theorem `bench-uncut`: neither the limit nor the room for answers ends the bench's run; and what the public test of a world says, both ways.
 use Prim.Native.Nat.{ℕ, _+_}
 use mathlib.Core.Path.{_≡_, sym, ap, _∙_, subst}
 use mathlib.Core.Bool.{true, not}
@@ -10,7 +10,7 @@ use lib.Dec.{eqb}
 use borrow.Author.Tests.{eqb-true, eq-eqb, not-false}
 use Rattle.rules.specs.World.{World}
 use Rattle.rules.specs.Device.{isDevice, rowOf, prepared}
-use Rattle.rules.specs.Sound.{Sound, Lent}
+use Rattle.rules.specs.Sound.{isSound, Sound, Lent}
 use Rattle.rules.specs.Trace.{progressOf, run}
 use Rattle.rules.specs.Call.{lentRefusal, worldRefusal, runOutcome}
 use Rattle.rules.specs.Program as spec
