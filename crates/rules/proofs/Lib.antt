@@ -1,21 +1,21 @@
--- The theorems on the rules, and the laws that they rest on.
-pub mod Choice
+-- The tables, each line a theorem, which computation decides; then the other theorems on the rules, and the laws that they rest on.
 pub mod Opened
-pub mod Encoded
 pub mod Examples
 pub mod Readings
+pub mod Refusals
+pub mod Unsound
+pub mod Printed
+pub mod Choice
+pub mod Encoded
 pub mod Incident
 pub mod Inside
 pub mod Latch
 pub mod Lookalike
 pub mod Pieces
 pub mod Preserved
-pub mod Received
 pub mod Program
-pub mod Printed
+pub mod Received
 pub mod Recorded
-pub mod Refusals
-pub mod Unsound
 pub mod Runs
 pub mod Same
 pub mod Selections

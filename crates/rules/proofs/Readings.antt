@@ -33,6 +33,10 @@ status-taken-with-its-top-bit : Seen spec.status-taken-with-its-top-bit
 unfolding opened
 status-taken-with-its-top-bit = refl
 
+silent-after-select : Seen spec.silent-after-select
+unfolding opened
+silent-after-select = refl
+
 fall-that-starts-hold : Seen spec.fall-that-starts-hold
 unfolding opened
 fall-that-starts-hold = refl
@@ -176,8 +180,8 @@ lid-byte-not-latched = refl
 pub readings : Hold spec.readings
 readings =
     write-in-a-cycle and select-low-after-power and protect-low-for-a-moment and select-low-again and clock-high-again and clock-low-again
-    and status-taken-with-its-top-bit and fall-that-starts-hold and fall-that-ends-hold and clocks-in-hold and deselected-in-hold
-    and deselected-in-hold-with-hold-high and deselected-with-hold-low and selected-with-hold-low and power-resets-wel
+    and status-taken-with-its-top-bit and silent-after-select and fall-that-starts-hold and fall-that-ends-hold and clocks-in-hold
+    and deselected-in-hold and deselected-in-hold-with-hold-high and deselected-with-hold-low and selected-with-hold-low and power-resets-wel
     and power-keeps-what-is-stored and power-loses-a-command and turned-away-to-the-end and code-complete-after-the-cycle and wrdi-in-a-cycle
     and wren-of-two-bytes and wrdi-exactly and status-of-the-m95040 and status-of-the-m95m01 and status-of-the-m95m02
     and upper-quarter-of-the-m95m01 and upper-quarter-of-the-m95m02 and identification-of-the-m95m01 and identification-of-the-m95m02

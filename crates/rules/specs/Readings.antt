@@ -50,6 +50,10 @@ clock-low-again = (2, wren ∷ rolls ∷ begins (0x05 ∷ []) ∷ full ∷ event
 abbrev pub status-taken-with-its-top-bit : Line
 status-taken-with-its-top-bit = (2, wren ∷ rolls ∷ begins (0x05 ∷ []) ∷ hears 4 ∷ full ∷ hears 4 ∷ hears 8 ∷ [], 0x0 ∷ 0x3 ∷ 0x00 ∷ [])
 
+-- With S's rise Q is at Z.
+abbrev pub silent-after-select : Line
+silent-after-select = (1, wren ∷ begins (0x05 ∷ []) ∷ output ∷ ends ∷ output ∷ [], 0 ∷ 256 ∷ [])
+
 -- Hold, seen at ST's code 20h 00h 12h. The fall that starts it moves Q first, to 20h's bit 5, which is hidden and then comes back.
 abbrev pub fall-that-starts-hold : Line
 fall-that-starts-hold = (
@@ -92,9 +96,10 @@ deselected-with-hold-low = (
   0x02 ∷ [],
 )
 
--- S falls with HOLD low: held at once, so nothing comes in.
+-- S falls with HOLD low: held at once, so that the first clock does not count.
 abbrev pub selected-with-hold-low : Line
-selected-with-hold-low = (1, events (Event.Hold false ∷ []) ∷ begins (0x06 ∷ []) ∷ events (Event.Hold true ∷ []) ∷ ends ∷ status ∷ [], 0x00 ∷ [])
+selected-with-hold-low =
+    (1, events (Event.Hold false ∷ Event.Select false ∷ clocks ++ Event.Hold true ∷ bytesIn (0x06 ∷ []) ++ Event.Select true ∷ []) ∷ status ∷ [], 0x02 ∷ [])
 
 -- Power resets WEL, and keeps the status bits and the lock.
 abbrev pub power-resets-wel : Line
@@ -230,7 +235,7 @@ lid-byte-not-latched = (1, wren ∷ say (0x82 ∷ 0x80 ∷ 0x02 ∷ []) ∷ latc
 abbrev pub readings : List Line
 readings =
     write-in-a-cycle ∷ select-low-after-power ∷ protect-low-for-a-moment ∷ select-low-again ∷ clock-high-again ∷ clock-low-again
-    ∷ status-taken-with-its-top-bit ∷ fall-that-starts-hold ∷ fall-that-ends-hold ∷ clocks-in-hold ∷ deselected-in-hold
+    ∷ status-taken-with-its-top-bit ∷ silent-after-select ∷ fall-that-starts-hold ∷ fall-that-ends-hold ∷ clocks-in-hold ∷ deselected-in-hold
     ∷ deselected-in-hold-with-hold-high ∷ deselected-with-hold-low ∷ selected-with-hold-low ∷ power-resets-wel ∷ power-keeps-what-is-stored
     ∷ power-loses-a-command ∷ turned-away-to-the-end ∷ code-complete-after-the-cycle ∷ wrdi-in-a-cycle ∷ wren-of-two-bytes ∷ wrdi-exactly
     ∷ status-of-the-m95040 ∷ status-of-the-m95m01 ∷ status-of-the-m95m02 ∷ upper-quarter-of-the-m95m01 ∷ upper-quarter-of-the-m95m02

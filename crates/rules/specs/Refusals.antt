@@ -1,9 +1,11 @@
 -- 01, "Numbers given back", by example: for each call each number that it can give, with the whole outcome beside it (the answer, the
 -- counts, the state and every lent buffer), and where two faults stand together the earlier number. `Unsound` has what gives 5.
-use Rattle.rules.specs.World.{ℕ, _≡_, true, false, List, [], _∷_, _++_, replicate, Instruction, Kind, Level, Event, State, World, worldOf, withPins, withSelection, withStored, withState, withLatch, Each}
+use Rattle.rules.specs.World.{ℕ, _≡_, true, false, List, [], _∷_, _++_, replicate, Instruction, Kind, Level, Event, State, World, worldOf, Each}
+use Rattle.rules.specs.World.{withPins, withSelection, withStored, withState, withLatch}
 use Rattle.rules.specs.Device.{preparedState}
 use Rattle.rules.specs.Trace.{Progress, progressOf}
-use Rattle.rules.specs.Call.{Prepared, preparedAs, prepareOutcome, Replied, repliedAs, eventOutcome, runOutcome, Shown, shownAs, cellPageOutcome, identificationPageOutcome, First, firstAs, firstRecord}
+use Rattle.rules.specs.Call.{Prepared, preparedAs, prepareOutcome, Replied, repliedAs, eventOutcome, runOutcome}
+use Rattle.rules.specs.Call.{Shown, shownAs, cellPageOutcome, identificationPageOutcome, First, firstAs, firstRecord}
 
 -- A line: a call, and its whole outcome.
 pub data Line : Type 0 where
