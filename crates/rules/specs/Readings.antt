@@ -192,16 +192,16 @@ protect-low-and-write = (1, wren ∷ events (Event.Protect false ∷ []) ∷ say
 abbrev pub unknown-code : Line
 unknown-code = (2, ask (0x00 ∷ 0x05 ∷ []) 1 ∷ ask (0x00 ∷ 0x00 ∷ 0x05 ∷ []) 1 ∷ [], silence ∷ silence ∷ [])
 
--- RDID ends with its page and stays silent. WRID rolls round within it, whatever the address bits above the page.
+-- RDID ends with its page and stays silent, WRID rolls round within it; address bits above the page do not matter.
 abbrev pub rdid-past-the-page : Line
-rdid-past-the-page = (1, ask (0x83 ∷ 0x0F ∷ []) 3 ∷ [], 0xFF ∷ silence ∷ silence ∷ [])
+rdid-past-the-page = (1, ask (0x83 ∷ 0x7F ∷ []) 3 ∷ [], 0xFF ∷ silence ∷ silence ∷ [])
 
 abbrev pub wrid-rolls : Line
 wrid-rolls = (1, wren ∷ say (0x82 ∷ 0x7E ∷ 0xA1 ∷ 0xA2 ∷ 0xA3 ∷ []) ∷ full ∷ identity 14 ∷ identity 15 ∷ identity 0 ∷ [], 0xA1 ∷ 0xA2 ∷ 0xA3 ∷ [])
 
--- The lock, and BP 11, shut the identification page to WRID and LID; a dropped one keeps WEL.
+-- The lock, and BP 11, shut the identification page to WRID and LID; a dropped one keeps WEL. Of a lock address bit 7 alone counts.
 abbrev pub wrid-when-locked : Line
-wrid-when-locked = (1, wren ∷ say (0x82 ∷ 0x80 ∷ 0x02 ∷ []) ∷ full ∷ wren ∷ say (0x82 ∷ 0x00 ∷ 0x66 ∷ []) ∷ full ∷ identity 0 ∷ status ∷ [], 0xFF ∷ 0x02 ∷ [])
+wrid-when-locked = (1, wren ∷ say (0x82 ∷ 0xFF ∷ 0x02 ∷ []) ∷ full ∷ wren ∷ say (0x82 ∷ 0x00 ∷ 0x66 ∷ []) ∷ full ∷ identity 0 ∷ status ∷ [], 0xFF ∷ 0x02 ∷ [])
 
 abbrev pub wrid-with-all-protected : Line
 wrid-with-all-protected = (1, wren ∷ say (0x01 ∷ 0x0C ∷ []) ∷ full ∷ wren ∷ say (0x82 ∷ 0x00 ∷ 0x66 ∷ []) ∷ full ∷ identity 0 ∷ status ∷ [], 0xFF ∷ 0x0E ∷ [])
