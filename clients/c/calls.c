@@ -17,6 +17,9 @@ static void sizes(void) {
 /* 1 to 5 in their order: each fault alone, and with all that come after it. */
 static void refused_buffers(void) {
     prepare(2);
+    /* Bytes that no preparing would leave, so that one which is refused and fills the buffers all the same is seen. */
+    chip.cells[3] = chip.identification[5] = 0x5A;
+    chip.latch[7] = 0x5A;
     note();
     for (size_t number = 1; number <= 5; number++) {
         for (int alone = 0; alone <= 1; alone++) {
