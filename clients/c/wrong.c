@@ -1,0 +1,165 @@
+/*
+ * The calls of m95.h made wrong in one way, for clients/test to see that calls.c notices it. The linker hands every call that calls.c makes
+ * to the function here (its option --wrap), and this one calls the library's own. Which way is the number in the variable M95_WRONG; 0 is
+ * none, and a number past the last ends the program with status 3.
+ */
+#include <stdlib.h>
+#include <string.h>
+
+#include "m95.h"
+
+enum way {
+    RIGHT,
+    CELLS_OF_NO_DEVICE,
+    CELLS_OF_A_LARGE_NUMBER,
+    PAGE_OF_A_LARGE_NUMBER,
+    PAGE_OF_NO_DEVICE,
+    PAGE_JUDGED_BEFORE_CELLS,
+    NO_STATE_TAKEN,
+    LARGE_NUMBER_TAKEN,
+    PREPARES_WITHOUT_ROOM_FOR_A_STATE,
+    NO_ROOM_FOR_A_STATE_TAKEN,
+    REFUSED_PREPARING_GIVES_NO_STATE,
+    REFUSED_PREPARING_CHANGES_CELLS,
+    REFUSED_EVENT_ANSWERS_0,
+    KIND_REFUSED_AS_PIN,
+    PIN_TEN_TAKEN,
+    REFUSED_EVENT_CHANGES_THE_LATCH,
+    POWER_TAKEN_IN_A_CYCLE,
+    LIMIT_ONE_MORE,
+    REFUSED_TRACE_DID_ONE,
+    REFUSED_TRACE_ANSWERS,
+    SHORT_RECORD_TAKEN,
+    STATUS_OF_NO_STATE,
+    STATUS_WITHOUT_WEL,
+    PAGE_STARTS_ONE_LATER,
+    PAST_THE_CELLS_AS_WRONG_LENGTH,
+    REFUSED_PAGE_SHOWN,
+    IDENTIFICATION_PAGE_ONE_SHORT,
+    IDENTIFICATION_LENGTH_AS_CELLS,
+    REFUSED_IDENTIFICATION_SHOWN,
+    WAYS
+};
+
+static enum way way(void) {
+    static int chosen = -1;
+    if (chosen < 0) {
+        const char *named = getenv("M95_WRONG");
+        chosen = named == NULL ? RIGHT : atoi(named);
+        if (chosen < 0 || chosen >= WAYS) {
+            exit(3);
+        }
+    }
+    return (enum way)chosen;
+}
+
+#define BUFFERS state, state_length, cells, cells_length, identification, identification_length, latch, latch_length
+#define TAKEN(constant)                                                                           \
+    constant uint8_t *state, size_t state_length, constant uint8_t *cells, size_t cells_length,   \
+        constant uint8_t *identification, size_t identification_length, constant uint8_t *latch, size_t latch_length
+#define WRITTEN TAKEN()
+#define ONLY_READ TAKEN(const)
+
+size_t __real_m95_cells(size_t device);
+size_t __real_m95_page(size_t device);
+size_t __real_m95_refusal(size_t device, ONLY_READ);
+size_t __real_m95_prepare(size_t device, WRITTEN);
+size_t __real_m95_event(size_t device, WRITTEN, size_t kind, size_t value, size_t *answer);
+size_t __real_m95_run(size_t device, WRITTEN, const uint8_t *trace, size_t trace_length, uint8_t *answers, size_t answers_length, size_t limit,
+                      size_t *taken, size_t *done);
+size_t __real_m95_status_byte(const uint8_t *state, size_t state_length, size_t *status);
+size_t __real_m95_cell_page(size_t device, const uint8_t *cells, size_t cells_length, size_t address, size_t *start, size_t *length);
+size_t __real_m95_identification_page(size_t device, const uint8_t *identification, size_t identification_length, size_t *length);
+
+size_t __wrap_m95_cells(size_t device) {
+    if (way() == CELLS_OF_NO_DEVICE && device == 5) {
+        return 512;
+    }
+    return __real_m95_cells(way() == CELLS_OF_A_LARGE_NUMBER ? device & 255 : device);
+}
+
+size_t __wrap_m95_page(size_t device) {
+    if (way() == PAGE_OF_NO_DEVICE && device == 0) {
+        return 16;
+    }
+    return __real_m95_page(way() == PAGE_OF_A_LARGE_NUMBER ? device & 255 : device);
+}
+
+size_t __wrap_m95_refusal(size_t device, ONLY_READ) {
+    size_t number = __real_m95_refusal(way() == LARGE_NUMBER_TAKEN ? device & 255 : device, BUFFERS);
+    if (way() == PAGE_JUDGED_BEFORE_CELLS && number == 2 && identification_length != __real_m95_page(device)) {
+        return 3;
+    }
+    return way() == NO_STATE_TAKEN && number == 5 ? 0 : number;
+}
+
+size_t __wrap_m95_prepare(size_t device, WRITTEN) {
+    if (way() == PREPARES_WITHOUT_ROOM_FOR_A_STATE && state_length != M95_STATE_BYTES) {
+        memset(cells, 0xFF, cells_length);
+    }
+    size_t number = __real_m95_prepare(device, BUFFERS);
+    if (way() == REFUSED_PREPARING_GIVES_NO_STATE && 1 <= number && number <= 4) {
+        memset(state, 0, state_length);
+    }
+    if (way() == REFUSED_PREPARING_CHANGES_CELLS && number == 1) {
+        cells[0] ^= 1;
+    }
+    return way() == NO_ROOM_FOR_A_STATE_TAKEN && number == 5 ? 0 : number;
+}
+
+size_t __wrap_m95_event(size_t device, WRITTEN, size_t kind, size_t value, size_t *answer) {
+    size_t number = __real_m95_event(device, BUFFERS, kind, value, answer);
+    if (way() == REFUSED_EVENT_ANSWERS_0 && number != 0) {
+        *answer = 0;
+    }
+    if (way() == REFUSED_EVENT_CHANGES_THE_LATCH && number >= 7) {
+        latch[0] ^= 1;
+    }
+    if (way() == KIND_REFUSED_AS_PIN && number == 7) {
+        return 9;
+    }
+    return (way() == PIN_TEN_TAKEN && number == 9) || (way() == POWER_TAKEN_IN_A_CYCLE && number == 11) ? 0 : number;
+}
+
+size_t __wrap_m95_run(size_t device, WRITTEN, const uint8_t *trace, size_t trace_length, uint8_t *answers, size_t answers_length, size_t limit,
+                      size_t *taken, size_t *done) {
+    size_t most = way() == LIMIT_ONE_MORE ? limit + 1 : limit;
+    size_t number = __real_m95_run(device, BUFFERS, trace, trace_length, answers, answers_length, most, taken, done);
+    if (way() == REFUSED_TRACE_DID_ONE && 1 <= number && number <= 5) {
+        *done = 1;
+    }
+    if (way() == REFUSED_TRACE_ANSWERS && 1 <= number && number <= 5 && answers_length > 0) {
+        answers[0] = M95_Z;
+    }
+    return way() == SHORT_RECORD_TAKEN && number == 6 ? 0 : number;
+}
+
+size_t __wrap_m95_status_byte(const uint8_t *state, size_t state_length, size_t *status) {
+    size_t number = __real_m95_status_byte(state, state_length, status);
+    if (way() == STATUS_WITHOUT_WEL && number == 0) {
+        *status &= ~(size_t)2;
+    }
+    return way() == STATUS_OF_NO_STATE && number == 5 ? 0 : number;
+}
+
+size_t __wrap_m95_cell_page(size_t device, const uint8_t *cells, size_t cells_length, size_t address, size_t *start, size_t *length) {
+    size_t number = __real_m95_cell_page(device, cells, cells_length, address, start, length);
+    if (way() == PAGE_STARTS_ONE_LATER && number == 0) {
+        *start += 1;
+    }
+    if (way() == REFUSED_PAGE_SHOWN && number != 0) {
+        *length = 1;
+    }
+    return way() == PAST_THE_CELLS_AS_WRONG_LENGTH && number == 13 ? 2 : number;
+}
+
+size_t __wrap_m95_identification_page(size_t device, const uint8_t *identification, size_t identification_length, size_t *length) {
+    size_t number = __real_m95_identification_page(device, identification, identification_length, length);
+    if (way() == IDENTIFICATION_PAGE_ONE_SHORT && number == 0) {
+        *length -= 1;
+    }
+    if (way() == REFUSED_IDENTIFICATION_SHOWN && number != 0) {
+        *length = 1;
+    }
+    return way() == IDENTIFICATION_LENGTH_AS_CELLS && number == 3 ? 2 : number;
+}
