@@ -64,9 +64,13 @@ run-to-its-limit : spec.Gives spec.run-to-its-limit
 unfolding calls
 run-to-its-limit = refl
 
-run-each-pin : spec.Gives spec.run-each-pin
+run-data-select-protect : spec.Gives spec.run-data-select-protect
 unfolding calls
-run-each-pin = refl
+run-data-select-protect = refl
+
+run-clock-hold : spec.Gives spec.run-clock-hold
+unfolding calls
+run-clock-hold = refl
 
 run-wait : spec.Gives spec.run-wait
 unfolding calls
@@ -220,10 +224,10 @@ pub refusals : spec.Given spec.refusals
 refusals =
     prepare-taken and prepare-device-five and prepare-device-zero and prepare-cells and prepare-identification and prepare-latch and event-taken
     and event-device and event-cells and event-identification and event-latch and event-mark and event-power-in-a-cycle and run-to-its-end
-    and run-to-its-limit and run-each-pin and run-wait and run-wait-third-byte and run-wait-fourth-byte and run-answers-low and run-answers-high
-    and run-device and run-cells and run-identification and run-latch and run-mark and run-no-four-bytes and run-unknown-kind
-    and run-kind-of-two-bytes and run-wrong-length and run-length-of-two-bytes and run-no-body and run-no-pin and run-no-answer-left
-    and run-power-in-a-cycle and cell-page-first-address and cell-page-last-address and cell-page-device and cell-page-cells
-    and cell-page-past-the-cells and cell-page-of-the-last-cell and identification-page-shown and identification-page-device
+    and run-to-its-limit and run-data-select-protect and run-clock-hold and run-wait and run-wait-third-byte and run-wait-fourth-byte
+    and run-answers-low and run-answers-high and run-device and run-cells and run-identification and run-latch and run-mark
+    and run-no-four-bytes and run-unknown-kind and run-kind-of-two-bytes and run-wrong-length and run-length-of-two-bytes and run-no-body
+    and run-no-pin and run-no-answer-left and run-power-in-a-cycle and cell-page-first-address and cell-page-last-address and cell-page-device
+    and cell-page-cells and cell-page-past-the-cells and cell-page-of-the-last-cell and identification-page-shown and identification-page-device
     and identification-page-length and first-taken and first-too-long and first-of-32768-bytes and first-no-four-bytes and first-other-kind
     and first-other-length and first-no-body and first-device-three and first-device-zero and none

@@ -199,9 +199,12 @@ rdid-past-the-page = (1, ask (0x83 ∷ 0x7F ∷ []) 3 ∷ [], 0xFF ∷ silence �
 abbrev pub wrid-rolls : Line
 wrid-rolls = (1, wren ∷ say (0x82 ∷ 0x7E ∷ 0xA1 ∷ 0xA2 ∷ 0xA3 ∷ []) ∷ full ∷ identity 14 ∷ identity 15 ∷ identity 0 ∷ [], 0xA1 ∷ 0xA2 ∷ 0xA3 ∷ [])
 
--- The lock, and BP 11, shut the identification page to WRID and LID; a dropped one keeps WEL. Of a lock address bit 7 alone counts.
+-- The lock shuts the identification page to WRID and LID, BP 11 the cells too; a dropped write keeps WEL. Of a lock address bit 7 alone counts.
 abbrev pub wrid-when-locked : Line
 wrid-when-locked = (1, wren ∷ say (0x82 ∷ 0xFF ∷ 0x02 ∷ []) ∷ full ∷ wren ∷ say (0x82 ∷ 0x00 ∷ 0x66 ∷ []) ∷ full ∷ identity 0 ∷ status ∷ [], 0xFF ∷ 0x02 ∷ [])
+
+abbrev pub write-with-all-protected : Line
+write-with-all-protected = (1, wren ∷ say (0x01 ∷ 0x0C ∷ []) ∷ full ∷ wren ∷ say (0x02 ∷ 0x00 ∷ 0x66 ∷ []) ∷ status ∷ [], 0x0E ∷ [])
 
 abbrev pub wrid-with-all-protected : Line
 wrid-with-all-protected = (1, wren ∷ say (0x01 ∷ 0x0C ∷ []) ∷ full ∷ wren ∷ say (0x82 ∷ 0x00 ∷ 0x66 ∷ []) ∷ full ∷ identity 0 ∷ status ∷ [], 0xFF ∷ 0x0E ∷ [])
@@ -240,5 +243,5 @@ readings =
     ∷ power-loses-a-command ∷ turned-away-to-the-end ∷ code-complete-after-the-cycle ∷ wrdi-in-a-cycle ∷ wren-of-two-bytes ∷ wrdi-exactly
     ∷ status-of-the-m95040 ∷ status-of-the-m95m01 ∷ status-of-the-m95m02 ∷ upper-quarter-of-the-m95m01 ∷ upper-quarter-of-the-m95m02
     ∷ identification-of-the-m95m01 ∷ identification-of-the-m95m02 ∷ protect-low-and-wren ∷ protect-low-and-wrsr ∷ protect-low-and-write
-    ∷ unknown-code ∷ rdid-past-the-page ∷ wrid-rolls ∷ wrid-when-locked ∷ wrid-with-all-protected ∷ lid-with-all-protected
-    ∷ marks-cleared-by-write ∷ marks-cleared-by-82h ∷ latch-without-wel ∷ lid-byte-not-latched ∷ []
+    ∷ unknown-code ∷ rdid-past-the-page ∷ wrid-rolls ∷ wrid-when-locked ∷ write-with-all-protected ∷ wrid-with-all-protected
+    ∷ lid-with-all-protected ∷ marks-cleared-by-write ∷ marks-cleared-by-82h ∷ latch-without-wel ∷ lid-byte-not-latched ∷ []

@@ -114,15 +114,19 @@ run-to-its-end = run 1 good (pin 4 ++ power) (8 ∷ 9 ∷ 9 ∷ []) 5 (progressO
 abbrev pub run-to-its-limit : Line
 run-to-its-limit = run 1 good (pin 4 ++ 1 ∷ []) (9 ∷ 9 ∷ []) 1 (progressOf 0 5 1 (withState chosen good) (2 ∷ 9 ∷ []))
 
--- Each pin by its number: C, D, S, HOLD and W, the first two set high and the others low.
-abbrev moved : State
-moved =
-    withPins (record { c = true; d = true; s = false; hold = false; w = false })
+-- Each pin by its number: D, S and W of a prepared device moved, then C and HOLD.
+abbrev watched : State
+watched =
+    withPins (record { c = false; d = true; s = false; hold = true; w = false })
     (withSelection 0 (record { selected = true; held = false; seen = true }) (preparedState .input) (preparedState .command) (preparedState .output) preparedState)
 
-abbrev pub run-each-pin : Line
-run-each-pin =
-    run 1 good (pin 1 ++ pin 3 ++ pin 4 ++ pin 6 ++ pin 8) (replicate 5 9) 5 (progressOf 0 25 5 (withState moved good) (replicate 5 2))
+abbrev pub run-data-select-protect : Line
+run-data-select-protect = run 1 good (pin 3 ++ pin 4 ++ pin 8) (9 ∷ 9 ∷ 9 ∷ []) 3 (progressOf 0 15 3 (withState watched good) (2 ∷ 2 ∷ 2 ∷ []))
+
+abbrev pub run-clock-hold : Line
+run-clock-hold =
+    run 1 good (pin 1 ++ pin 6) (9 ∷ 9 ∷ []) 2
+    (progressOf 0 10 2 (withState (withPins (record { c = true; d = false; s = true; hold = false; w = true }) preparedState) good) (2 ∷ 2 ∷ []))
 
 -- A wait of 4999 microseconds leaves one; each of the upper bytes makes it long enough for any cycle. The latch marks its whole page.
 abbrev pub run-wait : Line
@@ -269,12 +273,13 @@ abbrev pub refusals : List Line
 refusals =
     prepare-taken ∷ prepare-device-five ∷ prepare-device-zero ∷ prepare-cells ∷ prepare-identification ∷ prepare-latch ∷ event-taken
     ∷ event-device ∷ event-cells ∷ event-identification ∷ event-latch ∷ event-mark ∷ event-power-in-a-cycle ∷ run-to-its-end ∷ run-to-its-limit
-    ∷ run-each-pin ∷ run-wait ∷ run-wait-third-byte ∷ run-wait-fourth-byte ∷ run-answers-low ∷ run-answers-high ∷ run-device ∷ run-cells
-    ∷ run-identification ∷ run-latch ∷ run-mark ∷ run-no-four-bytes ∷ run-unknown-kind ∷ run-kind-of-two-bytes ∷ run-wrong-length
-    ∷ run-length-of-two-bytes ∷ run-no-body ∷ run-no-pin ∷ run-no-answer-left ∷ run-power-in-a-cycle ∷ cell-page-first-address
-    ∷ cell-page-last-address ∷ cell-page-device ∷ cell-page-cells ∷ cell-page-past-the-cells ∷ cell-page-of-the-last-cell
-    ∷ identification-page-shown ∷ identification-page-device ∷ identification-page-length ∷ first-taken ∷ first-too-long ∷ first-of-32768-bytes
-    ∷ first-no-four-bytes ∷ first-other-kind ∷ first-other-length ∷ first-no-body ∷ first-device-three ∷ first-device-zero ∷ []
+    ∷ run-data-select-protect ∷ run-clock-hold ∷ run-wait ∷ run-wait-third-byte ∷ run-wait-fourth-byte ∷ run-answers-low ∷ run-answers-high
+    ∷ run-device ∷ run-cells ∷ run-identification ∷ run-latch ∷ run-mark ∷ run-no-four-bytes ∷ run-unknown-kind ∷ run-kind-of-two-bytes
+    ∷ run-wrong-length ∷ run-length-of-two-bytes ∷ run-no-body ∷ run-no-pin ∷ run-no-answer-left ∷ run-power-in-a-cycle
+    ∷ cell-page-first-address ∷ cell-page-last-address ∷ cell-page-device ∷ cell-page-cells ∷ cell-page-past-the-cells
+    ∷ cell-page-of-the-last-cell ∷ identification-page-shown ∷ identification-page-device ∷ identification-page-length ∷ first-taken
+    ∷ first-too-long ∷ first-of-32768-bytes ∷ first-no-four-bytes ∷ first-other-kind ∷ first-other-length ∷ first-no-body ∷ first-device-three
+    ∷ first-device-zero ∷ []
 
 -- The theorem `refusals`: each call gives its whole outcome as expected.
 abbrev pub Given : List Line → Type 0
