@@ -47,18 +47,23 @@ prepare-identification = prepare 1 (replicate 512 7) (8 ∷ []) (9 ∷ []) (prep
 abbrev pub prepare-latch : Line
 prepare-latch = prepare 1 (replicate 512 7) (replicate 16 8) (replicate 16 9) (preparedAs 4 (lent (replicate 512 7) (replicate 16 8) (replicate 16 9)))
 
--- A prepared M95040 with bytes of its own, what can be wrong with it, and the same in a cycle.
+-- A prepared M95040 with bytes of its own, and what can be wrong with it: each fault with all that are judged after it, down to a state that
+-- is held and not selected.
 abbrev pub good : World
 good = lent (replicate 512 7) (replicate 16 8) (replicate 32 1)
 
+abbrev pub astray : State
+astray =
+    withSelection 0 (record { selected = false; held = true; seen = false }) (preparedState .input) (preparedState .command) (preparedState .output) preparedState
+
 abbrev noCells : World
-noCells = lent (7 ∷ []) (8 ∷ []) (9 ∷ [])
+noCells = worldOf astray (7 ∷ []) (8 ∷ []) (9 ∷ [])
 
 abbrev noIdentification : World
-noIdentification = lent (good .cells) (8 ∷ []) (9 ∷ [])
+noIdentification = worldOf astray (good .cells) (8 ∷ []) (9 ∷ [])
 
 abbrev noLatch : World
-noLatch = lent (good .cells) (good .identification) (9 ∷ [])
+noLatch = worldOf astray (good .cells) (good .identification) (9 ∷ [])
 
 abbrev badMark : World
 badMark = withLatch (replicate 31 0 ++ 2 ∷ []) good
@@ -221,10 +226,10 @@ abbrev pub cell-page-last-address : Line
 cell-page-last-address = cellPage 1 striped 47 (shownAs 0 (replicate 16 2))
 
 abbrev pub cell-page-device : Line
-cell-page-device = cellPage 0 [] 512 (shownAs 1 [])
+cell-page-device = cellPage 0 (7 ∷ []) 512 (shownAs 1 [])
 
 abbrev pub cell-page-cells : Line
-cell-page-cells = cellPage 1 [] 512 (shownAs 2 [])
+cell-page-cells = cellPage 1 (7 ∷ []) 512 (shownAs 2 [])
 
 abbrev pub cell-page-past-the-cells : Line
 cell-page-past-the-cells = cellPage 1 striped 512 (shownAs 13 [])
@@ -236,10 +241,10 @@ abbrev pub identification-page-shown : Line
 identification-page-shown = identificationPage 1 (replicate 16 7) (shownAs 0 (replicate 16 7))
 
 abbrev pub identification-page-device : Line
-identification-page-device = identificationPage 0 [] (shownAs 1 [])
+identification-page-device = identificationPage 0 (7 ∷ []) (shownAs 1 [])
 
 abbrev pub identification-page-length : Line
-identification-page-length = identificationPage 1 [] (shownAs 3 [])
+identification-page-length = identificationPage 1 (7 ∷ []) (shownAs 3 [])
 
 -- The bench's first record: 12 before all else, then 6, 7, 8, 6, 1.
 abbrev pub first-taken : Line

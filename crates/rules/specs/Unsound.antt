@@ -3,7 +3,7 @@
 use Rattle.rules.specs.World.{ℕ, Bool, true, false, List, [], _∷_, Instruction, Kind, Level, Event, State, withPins, withSelection, withStored, withState}
 use Rattle.rules.specs.Device.{preparedState}
 use Rattle.rules.specs.Call.{repliedAs}
-use Rattle.rules.specs.Refusals.{Line, event, good, busy, chosen}
+use Rattle.rules.specs.Refusals.{Line, event, good, astray, busy, chosen}
 
 abbrev refused : State → Line
 refused s = event 1 (withState s good) (Event.Data true) (repliedAs 5 2 (withState s good))
@@ -63,9 +63,7 @@ resting bits bytes q =
     preparedState
 
 abbrev pub held-and-not-selected : Line
-held-and-not-selected =
-    refused
-    (withSelection 0 (record { selected = false; held = true; seen = false }) (preparedState .input) (preparedState .command) (preparedState .output) preparedState)
+held-and-not-selected = refused astray
 
 abbrev pub bit-and-not-selected : Line
 bit-and-not-selected = refused (resting 1 0 Level.Z)
