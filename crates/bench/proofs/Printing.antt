@@ -7,7 +7,7 @@ use native.Mathlib.Omega.{arith}
 use lib.ListN.{length, getD, take, drop, replicate, length-append}
 use lib.Dec.{eqb, leb, ltb, lit≤}
 use lib.Seq.{take-append-le}
-use borrow.Author.Tests.{ne-eqb, lt-ltb, le-ltb, leb-true, ltb-false, not-false}
+use borrow.Author.Tests.{ne-eqb, le-leb, lt-leb, lt-ltb, le-ltb, leb-true, ltb-false, not-false}
 use Rattle.rules.specs.World.{World}
 use Rattle.rules.specs.declared.Row.{Row}
 use Rattle.rules.specs.Device.{rowOf, prepared}
@@ -49,13 +49,18 @@ module _ (input : List ℕ) where
           first-body h = rw (le-ltb 32_768 (length input) a, le-ltb (length input) 4 b, ← ek, c, ← es, d, lt-ltb (length input) 5 h)
 
           module _ (e : 5 ≤ length input) where
-            pub first-device : not (leb 1 (getD input 4 0) && leb (getD input 4 0) 2) ≡ true → 1 ≡ firstRecord input .number
+            pub first-below : getD input 4 0 < 1 → 1 ≡ firstRecord input .number
             unfolding firstRecord
-            first-device h = rw (le-ltb 32_768 (length input) a, le-ltb (length input) 4 b, ← ek, c, ← es, d, le-ltb (length input) 5 e, h)
+            first-below h = rw (le-ltb 32_768 (length input) a, le-ltb (length input) 4 b, ← ek, c, ← es, d, le-ltb (length input) 5 e, lt-leb 1 (getD input 4 0) h)
 
-            pub first-good : not (leb 1 (getD input 4 0) && leb (getD input 4 0) 2) ≡ false → 0 ≡ firstRecord input .number
-            unfolding firstRecord
-            first-good h = rw (le-ltb 32_768 (length input) a, le-ltb (length input) 4 b, ← ek, c, ← es, d, le-ltb (length input) 5 e, h)
+            module _ (f : 1 ≤ getD input 4 0) where
+              pub first-above : 2 < getD input 4 0 → 1 ≡ firstRecord input .number
+              unfolding firstRecord
+              first-above h = rw (le-ltb 32_768 (length input) a, le-ltb (length input) 4 b, ← ek, c, ← es, d, le-ltb (length input) 5 e, le-leb 1 (getD input 4 0) f, lt-leb (getD input 4 0) 2 h)
+
+              pub first-good : getD input 4 0 ≤ 2 → 0 ≡ firstRecord input .number
+              unfolding firstRecord
+              first-good h = rw (le-ltb 32_768 (length input) a, le-ltb (length input) 4 b, ← ek, c, ← es, d, le-ltb (length input) 5 e, le-leb 1 (getD input 4 0) f, le-leb (getD input 4 0) 2 h)
 
 -- What is known where it is not refused.
 pub record Named (input : List ℕ) : Type 0 where

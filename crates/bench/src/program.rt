@@ -34,7 +34,10 @@ fn first_refused(input: &[u8]) -> usize
         return 6;
     }
     let device = input[4];
-    if !((1 <= device) & (device <= 2)) {
+    if device < 1 {
+        return 1;
+    }
+    if 2 < device {
         return 1;
     }
     0

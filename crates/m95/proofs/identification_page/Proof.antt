@@ -1,4 +1,5 @@
--- `m95::identification_page` meets its contract.
+-- `m95::identification_page` meets its contract. The test of the length is handed to `omega`, so that its meaning counts and not its spelling.
+use native.Mathlib.Omega.{arith}
 use Rattle.m95.proofs.Calling.{page-device, page-length, page-shown}
 use borrow.Author.Needs.{needs}
 use Rattle.m95.proofs.identification_page.Statement.{statement}
@@ -32,10 +33,10 @@ part-result-end-2 : tie.Need-part-result-end-2
 part-result-end-2 c = search needs
 
 returns-2 : tie.Need-returns-2
-returns-2 c = page-length (c .before .before .before .before .before .before .before .args .device) (c .before .before .before .before .before .row-of .result) (c .before .before .before .before .is-device .result) (c .before .before .before .before .before .row-of .ensures) (c .before .before .before .before .is-device .ensures) (c .before .before .before .before .before .before .before .args .identification .now) (c .before .before .before .if1 .left) (c .before .if2 .taken)
+returns-2 c = page-length (c .before .before .before .before .before .before .before .args .device) (c .before .before .before .before .before .row-of .result) (c .before .before .before .before .is-device .result) (c .before .before .before .before .before .row-of .ensures) (c .before .before .before .before .is-device .ensures) (c .before .before .before .before .before .before .before .args .identification .now) (c .before .before .before .if1 .left) (omega (arith, c .before .if2 .taken))
 
 returns-3 : tie.Need-returns-3
-returns-3 c = page-shown (c .before .before .before .before .before .before .args .device) (c .before .before .before .before .row-of .result) (c .before .before .before .is-device .result) (c .before .before .before .before .row-of .ensures) (c .before .before .before .is-device .ensures) (c .before .before .before .before .before .before .args .identification .now) (c .before .before .if1 .left) (c .if2 .left)
+returns-3 c = page-shown (c .before .before .before .before .before .before .args .device) (c .before .before .before .before .row-of .result) (c .before .before .before .is-device .result) (c .before .before .before .before .row-of .ensures) (c .before .before .before .is-device .ensures) (c .before .before .before .before .before .before .args .identification .now) (c .before .before .if1 .left) (omega (arith, c .if2 .left))
 
 pub identification-page-spec : {M : Type 1} → statement M
 identification-page-spec =

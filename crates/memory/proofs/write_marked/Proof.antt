@@ -1,4 +1,4 @@
--- `memory::write_marked` meets its contract.
+-- `memory::write_marked` meets its contract. The test of a mark is handed to `omega`, so that its meaning counts and not its spelling.
 use Rattle.rules.specs.Cycle.{written}
 use lib.ListN.{length, length-set}
 use mathlib.Core.Logic.{⊎-elim}
@@ -45,8 +45,8 @@ loop-again c =
     let l = c .before .before .before .loop in
     let a = c .before .before .before .before .args in
     ⊎-elim
-    (λ w. (omega arith, ap length (w .2) ∙ simp length-set (l .inv .1), cc (written-set (a .row .page) (a .latch .now) (a .start) (a .bytes .now) (l .i) (w .0 .taken))))
-    (λ w. (omega arith, ap length (w .1) ∙ l .inv .1, cc (written-keep (a .row .page) (a .latch .now) (a .start) (a .bytes .now) (l .i) (w .0 .left))))
+    (λ w. (omega arith, ap length (w .2) ∙ simp length-set (l .inv .1), cc (written-set (a .row .page) (a .latch .now) (a .start) (a .bytes .now) (l .i) (omega (arith, w .0 .taken)))))
+    (λ w. (omega arith, ap length (w .1) ∙ l .inv .1, cc (written-keep (a .row .page) (a .latch .now) (a .start) (a .bytes .now) (l .i) (omega (arith, w .0 .left)))))
     (c .if1 .came)
 
 same-length : tie.Need-same-length Inv-loop μ-loop

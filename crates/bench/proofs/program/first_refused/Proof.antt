@@ -1,38 +1,42 @@
--- `bench::program::first_refused` meets its contract.
-use Rattle.bench.proofs.Printing.{first-long, first-head, first-kind, first-length, first-body, first-device, first-good}
+-- `bench::program::first_refused` meets its contract. The tests on the length and the device are handed to `omega`, so that their meaning counts and not their spelling.
+use native.Mathlib.Omega.{arith}
+use Rattle.bench.proofs.Printing.{first-long, first-head, first-kind, first-length, first-body, first-below, first-above, first-good}
 use borrow.Author.Needs.{needs}
 use Rattle.bench.proofs.program.first_refused.Statement.{statement}
 use Rattle.bench.proofs.program.first_refused.Tie as tie
 
 returns : tie.Need-returns
-returns c = first-long (c .before .before .args .input .now) (c .if1 .taken)
+returns c = first-long (c .before .before .args .input .now) (omega (arith, c .if1 .taken))
 
 returns-2 : tie.Need-returns-2
-returns-2 c = first-head (c .before .before .before .args .input .now) (c .before .if1 .left) (c .if2 .taken)
+returns-2 c = first-head (c .before .before .before .args .input .now) (omega (arith, c .before .if1 .left)) (c .if2 .taken)
 
 two-at-requires : tie.Need-two-at-requires
 two-at-requires c κs = search needs
 
 returns-3 : tie.Need-returns-3
-returns-3 c = first-kind (c .before .before .before .before .before .args .input .now) (c .before .before .before .if1 .left) (c .before .before .if2 .left) _ (c .before .two-at .ensures) (c .if3 .taken)
+returns-3 c = first-kind (c .before .before .before .before .before .args .input .now) (omega (arith, c .before .before .before .if1 .left)) (c .before .before .if2 .left) _ (c .before .two-at .ensures) (c .if3 .taken)
 
 two-at-requires-2 : tie.Need-two-at-requires-2
 two-at-requires-2 c κs = search needs
 
 returns-4 : tie.Need-returns-4
-returns-4 c = first-length (c .before .before .before .before .before .before .before .args .input .now) (c .before .before .before .before .before .if1 .left) (c .before .before .before .before .if2 .left) _ (c .before .before .before .two-at .ensures) (c .before .before .if3 .left) _ (c .before .two-at2 .ensures) (c .if4 .taken)
+returns-4 c = first-length (c .before .before .before .before .before .before .before .args .input .now) (omega (arith, c .before .before .before .before .before .if1 .left)) (c .before .before .before .before .if2 .left) _ (c .before .before .before .two-at .ensures) (c .before .before .if3 .left) _ (c .before .two-at2 .ensures) (c .if4 .taken)
 
 returns-5 : tie.Need-returns-5
-returns-5 c = first-body (c .before .before .before .before .before .before .before .before .args .input .now) (c .before .before .before .before .before .before .if1 .left) (c .before .before .before .before .before .if2 .left) _ (c .before .before .before .before .two-at .ensures) (c .before .before .before .if3 .left) _ (c .before .before .two-at2 .ensures) (c .before .if4 .left) (c .if5 .taken)
+returns-5 c = first-body (c .before .before .before .before .before .before .before .before .args .input .now) (omega (arith, c .before .before .before .before .before .before .if1 .left)) (c .before .before .before .before .before .if2 .left) _ (c .before .before .before .before .two-at .ensures) (c .before .before .before .if3 .left) _ (c .before .before .two-at2 .ensures) (c .before .if4 .left) (c .if5 .taken)
 
 shared-slice-read-device : tie.Need-shared-slice-read-device
 shared-slice-read-device c = search needs
 
 returns-6 : tie.Need-returns-6
-returns-6 c = first-device (c .before .before .before .before .before .before .before .before .before .before .args .input .now) (c .before .before .before .before .before .before .before .before .if1 .left) (c .before .before .before .before .before .before .before .if2 .left) _ (c .before .before .before .before .before .before .two-at .ensures) (c .before .before .before .before .before .if3 .left) _ (c .before .before .before .before .two-at2 .ensures) (c .before .before .before .if4 .left) (c .before .before .if5 .left) (c .if6 .taken)
+returns-6 c = first-below (c .before .before .before .before .before .before .before .before .before .before .args .input .now) (omega (arith, c .before .before .before .before .before .before .before .before .if1 .left)) (c .before .before .before .before .before .before .before .if2 .left) _ (c .before .before .before .before .before .before .two-at .ensures) (c .before .before .before .before .before .if3 .left) _ (c .before .before .before .before .two-at2 .ensures) (c .before .before .before .if4 .left) (c .before .before .if5 .left) (omega (arith, c .if6 .taken))
 
 returns-7 : tie.Need-returns-7
-returns-7 c = first-good (c .before .before .before .before .before .before .before .before .before .before .args .input .now) (c .before .before .before .before .before .before .before .before .if1 .left) (c .before .before .before .before .before .before .before .if2 .left) _ (c .before .before .before .before .before .before .two-at .ensures) (c .before .before .before .before .before .if3 .left) _ (c .before .before .before .before .two-at2 .ensures) (c .before .before .before .if4 .left) (c .before .before .if5 .left) (c .if6 .left)
+returns-7 c = first-above (c .before .before .before .before .before .before .before .before .before .before .before .args .input .now) (omega (arith, c .before .before .before .before .before .before .before .before .before .if1 .left)) (c .before .before .before .before .before .before .before .before .if2 .left) _ (c .before .before .before .before .before .before .before .two-at .ensures) (c .before .before .before .before .before .before .if3 .left) _ (c .before .before .before .before .before .two-at2 .ensures) (c .before .before .before .before .if4 .left) (c .before .before .before .if5 .left) (omega (arith, c .before .if6 .left)) (omega (arith, c .if7 .taken))
+
+returns-8 : tie.Need-returns-8
+returns-8 c = first-good (c .before .before .before .before .before .before .before .before .before .before .before .args .input .now) (omega (arith, c .before .before .before .before .before .before .before .before .before .if1 .left)) (c .before .before .before .before .before .before .before .before .if2 .left) _ (c .before .before .before .before .before .before .before .two-at .ensures) (c .before .before .before .before .before .before .if3 .left) _ (c .before .before .before .before .before .two-at2 .ensures) (c .before .before .before .before .if4 .left) (c .before .before .before .if5 .left) (omega (arith, c .before .if6 .left)) (omega (arith, c .if7 .left))
 
 pub first-refused-spec : {M : Type 1} → statement M
 first-refused-spec =
@@ -47,4 +51,5 @@ first-refused-spec =
     returns-5
     shared-slice-read-device
     returns-6
-    returns-7)
+    returns-7
+    returns-8)

@@ -1,4 +1,4 @@
--- `player::contents::judged` meets its contract.
+-- `player::contents::judged` meets its contract. The test of the lock byte is handed to `omega`, so that its meaning counts and not its spelling.
 use native.Mathlib.Omega.{arith}
 use Rattle.player.proofs.Playing.{file-fits, stored-raw, stored-length, stored-status, stored-lock, stored-whole}
 use borrow.Author.Needs.{needs}
@@ -36,13 +36,13 @@ stored-as-requires-4 : tie.Need-stored-as-requires-4
 stored-as-requires-4 c κs = search needs
 
 returns-4 : tie.Need-returns-4
-returns-4 c = stored-lock (c .before .before .before .before .before .before .before .before .args .row) (c .before .before .before .before .before .before .before .before .args .length) (c .before .before .before .before .before .before .before .before .args .status) (c .before .before .before .before .before .before .before .before .args .lock) (c .before .before .before .before .before .before .if1 .left) (c .before .before .before .before .if2 .left) _ (c .before .before .before .stored .ensures) (c .before .before .if3 .left) _ (c .stored-as4 .ensures) (c .before .if4 .taken)
+returns-4 c = stored-lock (c .before .before .before .before .before .before .before .before .args .row) (c .before .before .before .before .before .before .before .before .args .length) (c .before .before .before .before .before .before .before .before .args .status) (c .before .before .before .before .before .before .before .before .args .lock) (c .before .before .before .before .before .before .if1 .left) (c .before .before .before .before .if2 .left) _ (c .before .before .before .stored .ensures) (c .before .before .if3 .left) _ (c .stored-as4 .ensures) (omega (arith, c .before .if4 .taken))
 
 stored-as-requires-5 : tie.Need-stored-as-requires-5
 stored-as-requires-5 c κs = search needs
 
 returns-5 : tie.Need-returns-5
-returns-5 c = stored-whole (c .before .before .before .before .before .before .before .before .args .row) (c .before .before .before .before .before .before .before .before .args .length) (c .before .before .before .before .before .before .before .before .args .status) (c .before .before .before .before .before .before .before .before .args .lock) (c .before .before .before .before .before .before .if1 .left) (c .before .before .before .before .if2 .left) _ (c .before .before .before .stored .ensures) (c .before .before .if3 .left) _ (c .stored-as5 .ensures) (c .before .if4 .left)
+returns-5 c = stored-whole (c .before .before .before .before .before .before .before .before .args .row) (c .before .before .before .before .before .before .before .before .args .length) (c .before .before .before .before .before .before .before .before .args .status) (c .before .before .before .before .before .before .before .before .args .lock) (c .before .before .before .before .before .before .if1 .left) (c .before .before .before .before .if2 .left) _ (c .before .before .before .stored .ensures) (c .before .before .if3 .left) _ (c .stored-as5 .ensures) (omega (arith, c .before .if4 .left))
 
 pub judged-spec : {M : Type 1} → statement M
 judged-spec =
