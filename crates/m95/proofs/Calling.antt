@@ -1,5 +1,5 @@
 -- The outcome of each call, one law for each way through the rules.
-use Prim.Native.Nat.{ℕ, _+_, _-_, _*_, _%_, _≤_, _<_}
+use Prim.Native.Nat.{ℕ, _+_, _-_, _*_, _%_, _^_, _≤_, _<_}
 use mathlib.Core.Path.{_≡_, refl, sym, ap, _∙_, subst}
 use mathlib.Core.Bool.{Bool, true, false, not, _&&_, true≢false}
 use mathlib.Core.List.{List, [], _++_}
@@ -7,12 +7,13 @@ use native.Mathlib.Nat.{mod-le, add-sub-cancel-left}
 use native.Mathlib.Omega.{arith}
 use lib.ListN.{length, take, drop, replicate}
 use lib.Dec.{eqb}
+use lib.Pow.{pow-mono}
 use mir.Val.{boolByte}
 use borrow.Author.Tests.{eqb-true, eq-eqb, ne-eqb, le-leb, lt-leb, not-false}
 use Rattle.rules.specs.declared.Row.{Row}
 use Rattle.rules.specs.declared.Event.{Event}
 use Rattle.rules.specs.declared.State.{State}
-use Rattle.rules.specs.World.{bit, number, World, worldOf}
+use Rattle.rules.specs.World.{if_then_else_, bit, number, World, worldOf}
 use Rattle.rules.specs.Device.{Widths, isDevice, rowOf, code, preparedState, prepared}
 use Rattle.rules.specs.Instruction.{busy}
 use Rattle.rules.specs.Send.{statusByte}
@@ -23,7 +24,7 @@ use Rattle.rules.specs.Call.{lentRefusal, worldRefusal, preparedAs, prepareOutc
 use Rattle.rules.proofs.Choice.{if-elim}
 use Rattle.rules.proofs.Runs.{Course, course}
 use Rattle.rules.proofs.Soundness.{reads}
-use Rattle.rules.proofs.Widths.{of-device, start-aligned}
+use Rattle.rules.proofs.Widths.{of-device, page-below, start-aligned}
 use Rattle.write.proofs.Passing.{page-room}
 
 -- The row that was looked up has the widths.
@@ -44,39 +45,23 @@ pub a-device : (device : ℕ) → 1 ≤ device → device ≤ 4 → isDevice dev
 a-device device a b = rw (le-leb 1 device a, le-leb device 4 b)
 
 -- The lent buffers.
-module _ (device : ℕ) (row : Row) (d : Bool) (er : row ≡ rowOf device) (ed : d ≡ isDevice device) where
-  pub cells-at : rowOf device .cells ≡ row .cells
-  cells-at = ap (λ (x : Row). x .cells) (sym er)
+pub page-at : (device : ℕ) (row : Row) → row ≡ rowOf device → rowOf device .page ≡ row .page
+page-at device row er = ap (λ (x : Row). x .page) (sym er)
 
-  pub page-at : rowOf device .page ≡ row .page
-  page-at = ap (λ (x : Row). x .page) (sym er)
+pub both-fit : {row : Row} → Widths row → row .page + row .page < 2 ^ 25
+both-fit v = let small : 2 ^ v .cellBits ≤ 2 ^ 24 = pow-mono (v .narrow) in omega (arith, small, v .cells, page-below v)
 
-  module _ (cells identification latch : List ℕ) where
-    pub lent-device : not d ≡ true → 1 ≡ lentRefusal device cells identification latch
-    unfolding lentRefusal
-    lent-device h = rw (← ed, h)
-
-    module _ (h : not d ≡ false) where
-      pub lent-cells : (length cells ≡ row .cells → ⊥) → 2 ≡ lentRefusal device cells identification latch
-      unfolding lentRefusal
-      lent-cells a = rw (← ed, h, cells-at, ne-eqb (length cells) (row .cells) a)
-
-      module _ (a : length cells ≡ row .cells) where
-        pub lent-page : (length identification ≡ row .page → ⊥) → 3 ≡ lentRefusal device cells identification latch
-        unfolding lentRefusal
-        lent-page b = rw (← ed, h, cells-at, eq-eqb (length cells) (row .cells) a, page-at, ne-eqb (length identification) (row .page) b)
-
-        pub lent-latch : length identification ≡ row .page → (length latch ≡ row .page + row .page → ⊥) → 4 ≡ lentRefusal device cells identification latch
-        unfolding lentRefusal
-        lent-latch b c = rw (← ed, h, cells-at, eq-eqb (length cells) (row .cells) a, page-at, eq-eqb (length identification) (row .page) b, ne-eqb (length latch) (row .page + row .page) c)
-
-        pub lent-good : length identification ≡ row .page → length latch ≡ row .page + row .page → 0 ≡ lentRefusal device cells identification latch
-        unfolding lentRefusal
-        lent-good b c = rw (← ed, h, cells-at, eq-eqb (length cells) (row .cells) a, page-at, eq-eqb (length identification) (row .page) b, eq-eqb (length latch) (row .page + row .page) c)
+pub lent-wrong : (device : ℕ) (row : Row) (d : Bool) → row ≡ rowOf device → d ≡ isDevice device → (cells identification latch : List ℕ) (n : ℕ)
+    → n ≡ (if not d then 1 else if not (eqb (length cells) (row .cells)) then 2 else if not (eqb (length identification) (row .page)) then 3 else if not (eqb (length latch) (row .page + row .page)) then 4 else 0)
+    → n ≡ lentRefusal device cells identification latch
+unfolding lentRefusal
+lent-wrong device row d er ed cells identification latch n e = e ∙ rw (ed, er)
 
 pub lent-room : (device : ℕ) (row : Row) → row ≡ rowOf device → isDevice device ≡ true → (cells identification latch : List ℕ) → length cells ≡ row .cells → length identification ≡ row .page → length latch ≡ row .page + row .page
     → lentRefusal device cells identification latch ≡ 0
-lent-room device row e d cells identification latch ec ei el = sym (lent-good device row true e (sym d) cells identification latch refl ec ei el)
+unfolding lentRefusal
+lent-room device row e d cells identification latch ec ei el =
+    rw (d, ← e, eq-eqb (length cells) (row .cells) ec, eq-eqb (length identification) (row .page) ei, eq-eqb (length latch) (row .page + row .page) el)
 
 pub lent-fine : (device : ℕ) (s : State) (cells identification latch : List ℕ) → lentRefusal device cells identification latch ≡ 0 → Lent (rowOf device) (worldOf s cells identification latch)
 unfolding lentRefusal
@@ -104,13 +89,13 @@ module _ (device : ℕ) (w : World) (n : ℕ) (en : n ≡ lentRefusal device (w 
     sound-at : isSound (rowOf device) (w .state) (w .latch) ≡ b
     sound-at = ap (λ (x : Row). isSound x (w .state) (w .latch)) (sym er) ∙ sym eb
 
-    pub world-unsound : not b ≡ true → 5 ≡ worldRefusal device w
-    unfolding worldRefusal
-    world-unsound h = rw (← en, z, sound-at, h)
-
-    pub world-good : not b ≡ false → 0 ≡ worldRefusal device w
+    pub world-good : b ≡ true → 0 ≡ worldRefusal device w
     unfolding worldRefusal
     world-good h = rw (← en, z, sound-at, h)
+
+    pub world-unsound : b ≡ false → 5 ≡ worldRefusal device w
+    unfolding worldRefusal
+    world-unsound h = rw (← en, z, sound-at, h)
 
 pub fine : (device : ℕ) (w : World) → worldRefusal device w ≡ 0 → Sound (rowOf device) w × Lent (rowOf device) w
 unfolding worldRefusal

@@ -2,7 +2,7 @@
 // and the whole contents of every lent buffer as one function of the input: the outcomes of rules/specs/Call.antt.
 
 ghost use mathlib.Core.Path.{_≡_};
-ghost use Rattle.rules.specs.World.{worldOf};
+ghost use Rattle.rules.specs.World.{if_then_else_, worldOf};
 ghost use Rattle.rules.specs.Device.{preparedState};
 ghost use Rattle.rules.specs.Send.{statusByte};
 ghost use Rattle.rules.specs.Trace.{progressOf};
@@ -36,25 +36,37 @@ pub struct Replied {
     pub state: State,
 }
 
+// The number of what is wrong first, in document 01's order, or 0. No number hangs on what else is wrong besides.
+fn first_wrong(device: bool, cells: bool, identification: bool, latch: bool) -> usize
+    ensures { λ r. ⌜ r ≡ (if device then 1 else if cells then 2 else if identification then 3 else if latch then 4 else 0) ⌝ }
+{
+    if device {
+        return 1;
+    }
+    if cells {
+        return 2;
+    }
+    if identification {
+        return 3;
+    }
+    if latch {
+        return 4;
+    }
+    0
+}
+
 // 1 to 4: no such device; cells, identification page or latch of a wrong length. 0 otherwise.
 fn lent_refused(device: u8, cells: &[u8], identification: &[u8], latch: &[u8]) -> usize
     ensures { λ r. ⌜ r ≡ lentRefusal device (now (cells .entry)) (now (identification .entry)) (now (latch .entry)) ⌝ }
 {
     let row = tables::row_of(device);
     let page = row.page;
-    if !tables::is_device(device) {
-        return 1;
-    }
-    if cells.len() != row.cells {
-        return 2;
-    }
-    if identification.len() != page {
-        return 3;
-    }
-    if latch.len() != page + page {
-        return 4;
-    }
-    0
+    first_wrong(
+        !tables::is_device(device),
+        cells.len() != row.cells,
+        identification.len() != page,
+        latch.len() != page + page,
+    )
 }
 
 // 1 to 5: those, or a state that is not sound, or a mark that is not 0 or 1.
@@ -72,10 +84,10 @@ pub fn world_refused(
         return number;
     }
     let row = tables::row_of(device);
-    if !chip::sound::is_sound(row, s, latch) {
-        return 5;
+    if chip::sound::is_sound(row, s, latch) {
+        return 0;
     }
-    0
+    5
 }
 
 // The state of a prepared device, the same for all.

@@ -1,5 +1,5 @@
 -- `m95::prepare` meets its contract.
-use mathlib.Core.Path.{refl, sym, _∙_}
+use mathlib.Core.Path.{sym, _∙_}
 use Rattle.m95.proofs.Calling.{prepare-refused, prepare-done, row-widths, lent-fine, page-at}
 use borrow.Author.Needs.{needs}
 use Rattle.m95.proofs.prepare.Statement.{statement}
@@ -30,7 +30,7 @@ fill-requires : tie.Need-fill-requires
 fill-requires c κs = search needs
 
 prepare-identification-requires : tie.Need-prepare-identification-requires
-prepare-identification-requires c κs = (row-widths (c .before .before .before .before .before .before .before .before .before .before .before .before .before .before .before .args .device) (c .before .before .before .before .before .row-of .result) (c .before .before .before .before .before .row-of .ensures), lent-fine (c .before .before .before .before .before .before .before .before .before .before .before .before .before .before .before .args .device) (c .before .before .before .before .before .before .before .prepared-state .result) (c .before .before .before .before .before .before .before .before .before .before .before .before .before .before .before .args .cells .now) (c .before .before .before .before .before .before .before .before .before .before .before .before .before .before .before .args .identification .now) (c .before .before .before .before .before .before .before .before .before .before .before .before .before .before .before .args .latch .now) (sym (c .before .before .before .before .before .before .before .before .lent-refused .ensures) ∙ c .before .before .before .before .before .before .if1 .left) .identification ∙ page-at (c .before .before .before .before .before .before .before .before .before .before .before .before .before .before .before .args .device) (c .before .before .before .before .before .row-of .result) _ (c .before .before .before .before .before .row-of .ensures) refl)
+prepare-identification-requires c κs = (row-widths (c .before .before .before .before .before .before .before .before .before .before .before .before .before .before .before .args .device) (c .before .before .before .before .before .row-of .result) (c .before .before .before .before .before .row-of .ensures), lent-fine (c .before .before .before .before .before .before .before .before .before .before .before .before .before .before .before .args .device) (c .before .before .before .before .before .before .before .prepared-state .result) (c .before .before .before .before .before .before .before .before .before .before .before .before .before .before .before .args .cells .now) (c .before .before .before .before .before .before .before .before .before .before .before .before .before .before .before .args .identification .now) (c .before .before .before .before .before .before .before .before .before .before .before .before .before .before .before .args .latch .now) (sym (c .before .before .before .before .before .before .before .before .lent-refused .ensures) ∙ c .before .before .before .before .before .before .if1 .left) .identification ∙ page-at (c .before .before .before .before .before .before .before .before .before .before .before .before .before .before .before .args .device) (c .before .before .before .before .before .row-of .result) (c .before .before .before .before .before .row-of .ensures))
 
 fill-requires-2 : tie.Need-fill-requires-2
 fill-requires-2 c κs = search needs

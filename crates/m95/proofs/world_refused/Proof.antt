@@ -4,7 +4,7 @@ use Rattle.rules.specs.World.{worldOf}
 use lib.ListN.{length}
 use Prim.Native.Nat.{_+_}
 use mathlib.Core.Path.{_≡_, sym, _∙_, subst}
-use Rattle.m95.proofs.Calling.{world-lent, world-unsound, world-good, row-widths, lent-fine}
+use Rattle.m95.proofs.Calling.{world-lent, world-good, world-unsound, row-widths, lent-fine}
 use borrow.Author.Needs.{needs}
 use Rattle.m95.proofs.world_refused.Statement.{statement}
 use Rattle.m95.proofs.world_refused.Tie as tie
@@ -22,10 +22,10 @@ is-sound-requires : tie.Need-is-sound-requires
 is-sound-requires c κs = (row-widths (c .before .before .before .before .before .before .args .device) (c .row-of .result) (c .row-of .ensures), subst (λ (x : Row). length (c .before .before .before .before .before .before .args .latch .now) ≡ x .page + x .page) (sym (c .row-of .ensures)) (lent-fine (c .before .before .before .before .before .before .args .device) (c .before .before .before .before .before .before .args .s) (c .before .before .before .before .before .before .args .cells .now) (c .before .before .before .before .before .before .args .identification .now) (c .before .before .before .before .before .before .args .latch .now) (sym (c .before .before .lent-refused .ensures) ∙ c .before .if1 .left) .latch))
 
 returns-2 : tie.Need-returns-2
-returns-2 c = world-unsound (c .before .before .before .before .before .before .before .before .args .device) (worldOf (c .before .before .before .before .before .before .before .before .args .s) (c .before .before .before .before .before .before .before .before .args .cells .now) (c .before .before .before .before .before .before .before .before .args .identification .now) (c .before .before .before .before .before .before .before .before .args .latch .now)) (c .before .before .before .before .lent-refused .result) (c .before .before .before .before .lent-refused .ensures) (c .before .before .before .if1 .left) (c .before .before .row-of .result) (c .before .before .row-of .ensures) (c .before .is-sound .result) (c .before .is-sound .ensures) (c .if2 .taken)
+returns-2 c = world-good (c .before .before .before .before .before .before .before .before .args .device) (worldOf (c .before .before .before .before .before .before .before .before .args .s) (c .before .before .before .before .before .before .before .before .args .cells .now) (c .before .before .before .before .before .before .before .before .args .identification .now) (c .before .before .before .before .before .before .before .before .args .latch .now)) (c .before .before .before .before .lent-refused .result) (c .before .before .before .before .lent-refused .ensures) (c .before .before .before .if1 .left) (c .before .before .row-of .result) (c .before .before .row-of .ensures) (c .before .is-sound .result) (c .before .is-sound .ensures) (c .if2 .taken)
 
 returns-3 : tie.Need-returns-3
-returns-3 c = world-good (c .before .before .before .before .before .before .before .before .args .device) (worldOf (c .before .before .before .before .before .before .before .before .args .s) (c .before .before .before .before .before .before .before .before .args .cells .now) (c .before .before .before .before .before .before .before .before .args .identification .now) (c .before .before .before .before .before .before .before .before .args .latch .now)) (c .before .before .before .before .lent-refused .result) (c .before .before .before .before .lent-refused .ensures) (c .before .before .before .if1 .left) (c .before .before .row-of .result) (c .before .before .row-of .ensures) (c .before .is-sound .result) (c .before .is-sound .ensures) (c .if2 .left)
+returns-3 c = world-unsound (c .before .before .before .before .before .before .before .before .args .device) (worldOf (c .before .before .before .before .before .before .before .before .args .s) (c .before .before .before .before .before .before .before .before .args .cells .now) (c .before .before .before .before .before .before .before .before .args .identification .now) (c .before .before .before .before .before .before .before .before .args .latch .now)) (c .before .before .before .before .lent-refused .result) (c .before .before .before .before .lent-refused .ensures) (c .before .before .before .if1 .left) (c .before .before .row-of .result) (c .before .before .row-of .ensures) (c .before .is-sound .result) (c .before .is-sound .ensures) (c .if2 .left)
 
 pub world-refused-spec : {M : Type 1} → statement M
 world-refused-spec =
