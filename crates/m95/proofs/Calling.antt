@@ -186,9 +186,9 @@ module _ (device : ℕ) (row : Row) (d : Bool) (er : row ≡ rowOf device) (ed :
         unfolding cellPageOutcome
         cell-past b = rw (← ed, h, ← er, eq-eqb (length cells) (row .cells) a, le-leb (row .cells) address b)
 
-        pub cell-shown : (p : ℕ) → address < row .cells → p ≡ address % row .page → shownAs 0 (take (address - p + row .page - (address - p)) (drop (address - p) cells)) ≡ cellPageOutcome device cells address
+        pub cell-shown : (p q : ℕ) → address < row .cells → p ≡ address % row .page → q ≡ address - p + row .page → shownAs 0 (take (q - (address - p)) (drop (address - p) cells)) ≡ cellPageOutcome device cells address
         unfolding cellPageOutcome
-        cell-shown p b ep = rw (← ed, h, ← er, eq-eqb (length cells) (row .cells) a, lt-leb (row .cells) address b, add-sub-cancel-left (address - p) (row .page), ep)
+        cell-shown p q b ep eq = rw (← ed, h, ← er, eq-eqb (length cells) (row .cells) a, lt-leb (row .cells) address b, eq, add-sub-cancel-left (address - p) (row .page), ep)
 
   module _ (identification : List ℕ) where
     pub page-device : not d ≡ true → shownAs 1 [] ≡ identificationPageOutcome device identification

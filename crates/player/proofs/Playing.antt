@@ -77,8 +77,8 @@ stored-bits row n status lock =
 abbrev pub moved : List ℕ → ℕ → ℕ → List ℕ
 moved b from i = take i (drop from b) ++ drop i b
 
-pub moved-more : (b : List ℕ) (from i : ℕ) → from + i < length b → set (moved b from i) i (getD (moved b from i) (from + i) 0) ≡ moved b from (i + 1)
-moved-more b from i h =
+pub moved-more : (b l : List ℕ) (from i place : ℕ) → l ≡ moved b from i → place ≡ from + i → from + i < length b → set l i (getD l place 0) ≡ moved b from (i + 1)
+moved-more b l from i place el ep h =
     let s = drop from b in
     let long : length (take i s) ≡ i = length-take-le i s (omega (arith, length-drop from b)) in
     let at : from + i ≡ length (take i s) + from = omega (arith, long) in
@@ -86,7 +86,9 @@ moved-more b from i h =
     let read : getD (moved b from i) (from + i) 0 ≡ getD s i 0 = ap (λ (k : ℕ). getD (moved b from i) k 0) at ∙ getD-append-add (take i s) (drop i b) from 0 ∙ getD-drop i b from 0 ∙ ap (λ (k : ℕ). getD b k 0) back ∙ sym (getD-drop from b i 0) in
     let rest : drop i b ≡ getD b i 0 ∷ drop (suc i) b = drop-cons b i 0 (omega arith) in
     let first : take (suc i) s ≡ take i s ++ (getD s i 0 ∷ []) = take-suc s i 0 (omega (arith, length-drop from b)) in
-    ap (λ (a : ℕ). set (moved b from i) i a) read
+    ap (λ (m : List ℕ). set m i (getD m place 0)) el
+    ∙ ap (λ (k : ℕ). set (moved b from i) i (getD (moved b from i) k 0)) ep
+    ∙ ap (λ (a : ℕ). set (moved b from i) i a) read
     ∙ ap (λ (l : List ℕ). set (take i s ++ l) i (getD s i 0)) rest
     ∙ set-at (take i s) (getD b i 0) (drop (suc i) b) (getD s i 0) i long
     ∙ sym (append-snoc (take i s) (getD s i 0) (drop (suc i) b))

@@ -1,4 +1,4 @@
--- `m95::cell_page` meets its contract.
+-- `m95::cell_page` meets its contract. The page's end is handed to `omega`, so that its value counts and not its spelling.
 use native.Mathlib.Nat.{mod-le}
 use native.Mathlib.Omega.{arith}
 use Rattle.m95.proofs.Calling.{cell-device, cell-length, cell-past, cell-shown, row-widths, page-inside}
@@ -67,7 +67,7 @@ part-result-end-4 : tie.Need-part-result-end-4
 part-result-end-4 c = omega (arith, page-inside (row-widths (c .before .before .before .before .before .before .before .before .before .args .device) (c .before .before .before .before .before .before .before .row-of .result) (c .before .before .before .before .before .before .before .row-of .ensures)) (c .before .before .before .before .before .before .before .before .before .args .address) (c .place .result) (c .place .ensures) (c .before .if3 .left), c .before .before .before .if2 .left)
 
 returns-4 : tie.Need-returns-4
-returns-4 c = cell-shown (c .before .before .before .before .before .before .before .before .before .before .args .device) (c .before .before .before .before .before .before .before .before .row-of .result) (c .before .before .before .before .before .before .before .is-device .result) (c .before .before .before .before .before .before .before .before .row-of .ensures) (c .before .before .before .before .before .before .before .is-device .ensures) (c .before .before .before .before .before .before .before .before .before .before .args .cells .now) (c .before .before .before .before .before .before .before .before .before .before .args .address) (c .before .before .before .before .before .before .if1 .left) (c .before .before .before .before .if2 .left) (c .before .place .result) (c .before .before .if3 .left) (c .before .place .ensures)
+returns-4 c = cell-shown (c .before .before .before .before .before .before .before .before .before .before .args .device) (c .before .before .before .before .before .before .before .before .row-of .result) (c .before .before .before .before .before .before .before .is-device .result) (c .before .before .before .before .before .before .before .before .row-of .ensures) (c .before .before .before .before .before .before .before .is-device .ensures) (c .before .before .before .before .before .before .before .before .before .before .args .cells .now) (c .before .before .before .before .before .before .before .before .before .before .args .address) (c .before .before .before .before .before .before .if1 .left) (c .before .before .before .before .if2 .left) (c .before .place .result) _ (c .before .before .if3 .left) (c .before .place .ensures) (omega arith)
 
 pub cell-page-spec : {M : Type 1} → statement M
 cell-page-spec =

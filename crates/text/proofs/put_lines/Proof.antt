@@ -1,4 +1,4 @@
--- `text::put_lines` meets its contract.
+-- `text::put_lines` meets its contract. A line's number is handed to `omega`, so that its value counts and not its spelling.
 use Prim.Native.Nat.{_-_, _≤_}
 use mathlib.Core.Path.{_≡_, refl}
 use native.Mathlib.Omega.{arith}
@@ -35,7 +35,7 @@ loop-less : tie.Need-loop-less Inv-loop μ-loop
 loop-less c = omega arith
 
 loop-again : tie.Need-loop-again Inv-loop μ-loop
-loop-again c = (c .before .before .before .before .before .before .loop .inv .0, omega arith, lines-put (c .before .before .before .before .before .before .before .before .before .args .answers .now) (c .before .before .before .before .before .before .loop .i) (omega arith) (c .before .before .before .before .before .before .loop .inv .2) (c .before .before .put-line .ensures))
+loop-again c = (c .before .before .before .before .before .before .loop .inv .0, omega arith, lines-put (c .before .before .before .before .before .before .before .before .before .args .answers .now) (c .before .before .before .before .before .before .loop .i) (omega arith) (c .before .before .before .before .before .before .loop .inv .2) (c .before .before .put-line .ensures) (omega arith))
 
 same-length : tie.Need-same-length Inv-loop μ-loop
 same-length c = c .before .loop .inv .2 .long

@@ -1,9 +1,9 @@
--- `player::pieces::keep` meets its contract.
+-- `player::pieces::keep` meets its contract. The place that is read is handed to `omega`, so that its value counts and not its spelling.
 use Prim.Native.Nat.{ℕ, _+_, _-_, _≤_}
 use mathlib.Core.Path.{_≡_, refl, _∙_, ap}
 use mathlib.Core.List.{List}
 use native.Mathlib.Omega.{arith}
-use lib.ListN.{length, getD, set, take, length-set}
+use lib.ListN.{length, take, length-set}
 use Rattle.player.proofs.Playing.{moved, moved-more, moved-all}
 use Rattle.player.proofs.pieces.keep.Statement.{statement}
 use Rattle.player.proofs.pieces.keep.Tie as tie
@@ -36,7 +36,7 @@ loop-less : tie.Need-loop-less Inv-loop μ-loop
 loop-less c = omega arith
 
 loop-again : tie.Need-loop-again Inv-loop μ-loop
-loop-again c = (c .before .before .loop .inv .0, omega arith, length-set (c .before .before .loop .buf) (c .before .before .loop .i) _ ∙ c .before .before .loop .inv .2, ap (λ (l : List ℕ). set l (c .before .before .loop .i) (getD l (c .before .before .before .args .from + c .before .before .loop .i) 0)) (c .before .before .loop .inv .3) ∙ moved-more (c .before .before .before .args .buf .now) (c .before .before .before .args .from) (c .before .before .loop .i) (omega (arith, c .before .before .before .pre .0, c .before .before .before .pre .1, c .before .before .loop .inv .0)))
+loop-again c = (c .before .before .loop .inv .0, omega arith, length-set (c .before .before .loop .buf) (c .before .before .loop .i) _ ∙ c .before .before .loop .inv .2, moved-more (c .before .before .before .args .buf .now) (c .before .before .loop .buf) (c .before .before .before .args .from) (c .before .before .loop .i) _ (c .before .before .loop .inv .3) (omega arith) (omega (arith, c .before .before .before .pre .0, c .before .before .before .pre .1, c .before .before .loop .inv .0)))
 
 same-length : tie.Need-same-length Inv-loop μ-loop
 same-length c = c .before .loop .inv .2
