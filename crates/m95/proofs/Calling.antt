@@ -52,7 +52,8 @@ pub both-fit : {row : Row} → Widths row → row .page + row .page < 2 ^ 25
 both-fit v = let small : 2 ^ v .cellBits ≤ 2 ^ 24 = pow-mono (v .narrow) in omega (arith, small, v .cells, page-below v)
 
 pub lent-wrong : (device : ℕ) (row : Row) (d : Bool) → row ≡ rowOf device → d ≡ isDevice device → (cells identification latch : List ℕ) (n : ℕ)
-    → n ≡ (if not d then 1 else if not (eqb (length cells) (row .cells)) then 2 else if not (eqb (length identification) (row .page)) then 3 else if not (eqb (length latch) (row .page + row .page)) then 4 else 0)
+    → n ≡ (if not d then 1 else if not (eqb (length cells) (row .cells)) then 2
+    else if not (eqb (length identification) (row .page)) then 3 else if not (eqb (length latch) (row .page + row .page)) then 4 else 0)
     → n ≡ lentRefusal device cells identification latch
 unfolding lentRefusal
 lent-wrong device row d er ed cells identification latch n e = e ∙ rw (ed, er)
@@ -186,7 +187,8 @@ module _ (device : ℕ) (row : Row) (d : Bool) (er : row ≡ rowOf device) (ed :
         unfolding cellPageOutcome
         cell-past b = rw (← ed, h, ← er, eq-eqb (length cells) (row .cells) a, le-leb (row .cells) address b)
 
-        pub cell-shown : (p q : ℕ) → address < row .cells → p ≡ address % row .page → q ≡ address - p + row .page → shownAs 0 (take (q - (address - p)) (drop (address - p) cells)) ≡ cellPageOutcome device cells address
+        pub cell-shown : (p q : ℕ) → address < row .cells → p ≡ address % row .page → q ≡ address - p + row .page
+            → shownAs 0 (take (q - (address - p)) (drop (address - p) cells)) ≡ cellPageOutcome device cells address
         unfolding cellPageOutcome
         cell-shown p q b ep eq = rw (← ed, h, ← er, eq-eqb (length cells) (row .cells) a, lt-leb (row .cells) address b, eq, add-sub-cancel-left (address - p) (row .page), ep)
 

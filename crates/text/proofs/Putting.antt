@@ -135,8 +135,8 @@ none out at = record { place = omega arith; long = refl; stands = sym (append-ni
 pub line-put : {a b c : List ℕ} {i j k : ℕ} (n answer d : ℕ) → d ≡ shown answer → Put a i (decimal n) b j → Put b j (32 ∷ d ∷ 10 ∷ []) c k → Put a i (line n answer) c k
 line-put n answer d e p q = same-text (ap (λ (m : ℕ). decimal n ++ (32 ∷ m ∷ 10 ∷ [])) e) (joined p q)
 
-pub lines-put : {a b c : List ℕ} {i j k n : ℕ} (answers : List ℕ) (done : ℕ) → done < length answers → Put a i (lines 1 (take done answers)) b j → Put b j (line n (getD answers done 0)) c k → n ≡ done + 1
-    → Put a i (lines 1 (take (done + 1) answers)) c k
+pub lines-put : {a b c : List ℕ} {i j k n : ℕ} (answers : List ℕ) (done : ℕ) → done < length answers → Put a i (lines 1 (take done answers)) b j → Put b j (line n (getD answers done 0)) c k
+    → n ≡ done + 1 → Put a i (lines 1 (take (done + 1) answers)) c k
 lines-put answers done h p q e = same-text (ap (λ (m : ℕ). lines 1 (take done answers) ++ line m (getD answers done 0)) e ∙ lines-at answers done h) (joined p q)
 
 pub all-put : {a b : List ℕ} {i j : ℕ} (answers : List ℕ) (done : ℕ) → length answers ≤ done → Put a i (lines 1 (take done answers)) b j → Put a i (lines 1 answers) b j

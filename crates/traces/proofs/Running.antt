@@ -19,6 +19,12 @@ use Rattle.rules.proofs.Runs.{turn-does, run-stays, run-turn}
 use Rattle.traces.specs.Quick.{IsPin}
 use Rattle.traces.proofs.Short.{pin-done}
 
+-- The turn of a record that is done, with any spelling of the place behind it and of the count.
+module _ (row : Row) (t : List ℕ) (at n : ℕ) (w : World) (a : List ℕ) (h : at < length t) where
+  pub turn-ends : (size b : ℕ) (e : Event) (u : World) → recordRefusal t at (leb (length a) n) (w .state) ≡ 0 → size ≡ two t at → e ≡ eventAt t at → u ≡ step row e w
+      → b ≡ answerByte (answer (u .state)) → {next done : ℕ} → next ≡ at + 2 + size → done ≡ n + 1 → progressOf 0 next done u (set a n b) ≡ turn row t (progressOf 0 at n w a)
+  turn-ends size b e u r es ee eu eb en ed = rw (en, ed) (turn-does row t at n w a h size b e u r es ee eu eb)
+
 pub record Kept (row : Row) (t : List ℕ) (limit : ℕ) (w₀ : World) (a₀ : List ℕ) (w : World) (a : List ℕ) (at n : ℕ) : Type 0 where
   pub sound : Sound row w
   pub lent : Lent row w

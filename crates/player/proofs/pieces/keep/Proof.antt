@@ -1,5 +1,5 @@
 -- `player::pieces::keep` meets its contract. The place that is read is handed to `omega`, so that its value counts and not its spelling.
-use Prim.Native.Nat.{ℕ, _+_, _-_, _≤_}
+use Prim.Native.Nat.{ℕ, _-_, _≤_}
 use mathlib.Core.Path.{_≡_, refl, _∙_, ap}
 use mathlib.Core.List.{List}
 use native.Mathlib.Omega.{arith}
