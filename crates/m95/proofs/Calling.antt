@@ -1,7 +1,7 @@
 -- The outcome of each call, one law for each way through the rules.
 use Prim.Native.Nat.{ℕ, _+_, _-_, _*_, _%_, _^_, _≤_, _<_}
 use mathlib.Core.Path.{_≡_, refl, sym, ap, _∙_, subst}
-use mathlib.Core.Bool.{Bool, true, false, not, _&&_, true≢false}
+use mathlib.Core.Bool.{Bool, true, false, not, _&&_}
 use mathlib.Core.List.{List, [], _++_}
 use native.Mathlib.Nat.{mod-le, add-sub-cancel-left}
 use native.Mathlib.Omega.{arith}
@@ -9,7 +9,7 @@ use lib.ListN.{length, take, drop, replicate}
 use lib.Dec.{eqb}
 use lib.Pow.{pow-mono}
 use mir.Val.{boolByte}
-use borrow.Author.Tests.{eqb-true, eq-eqb, ne-eqb, le-leb, lt-leb, not-false}
+use borrow.Author.Tests.{eq-eqb, ne-eqb, le-leb, lt-leb}
 use Rattle.rules.specs.declared.Row.{Row}
 use Rattle.rules.specs.declared.Event.{Event}
 use Rattle.rules.specs.declared.State.{State}
@@ -21,9 +21,8 @@ use Rattle.rules.specs.Event.{step, answer, refusal}
 use Rattle.rules.specs.Sound.{isSound, Sound, Lent}
 use Rattle.rules.specs.Trace.{answerByte, Progress, progressOf, run}
 use Rattle.rules.specs.Call.{lentRefusal, worldRefusal, preparedAs, prepareOutcome, repliedAs, eventOutcome, runOutcome, shownAs, cellPageOutcome, identificationPageOutcome}
-use Rattle.rules.proofs.Choice.{if-elim}
+use Rattle.rules.proofs.Program.{lent-facts, world-facts}
 use Rattle.rules.proofs.Runs.{Course, course}
-use Rattle.rules.proofs.Soundness.{reads}
 use Rattle.rules.proofs.Widths.{of-device, page-below, start-aligned}
 use Rattle.write.proofs.Passing.{page-room}
 
@@ -65,20 +64,7 @@ lent-room device row e d cells identification latch ec ei el =
     rw (d, ← e, eq-eqb (length cells) (row .cells) ec, eq-eqb (length identification) (row .page) ei, eq-eqb (length latch) (row .page + row .page) el)
 
 pub lent-fine : (device : ℕ) (s : State) (cells identification latch : List ℕ) → lentRefusal device cells identification latch ≡ 0 → Lent (rowOf device) (worldOf s cells identification latch)
-unfolding lentRefusal
-lent-fine device s cells identification latch =
-    let P : ℕ → Type 0 = λ (n : ℕ). n ≡ 0 → Lent (rowOf device) (worldOf s cells identification latch) in
-    let row = rowOf device in
-    if-elim P (not (isDevice device)) (λ _ e. absurd (omega arith))
-    (λ _. if-elim P (not (eqb (length cells) (row .cells))) (λ _ e. absurd (omega arith))
-    (λ a. if-elim P (not (eqb (length identification) (row .page))) (λ _ e. absurd (omega arith))
-    (λ b. if-elim P (not (eqb (length latch) (row .page + row .page))) (λ _ e. absurd (omega arith))
-    (λ c e.
-    record {
-      cells = eqb-true (length cells) (row .cells) (not-false (eqb (length cells) (row .cells)) a);
-      identification = eqb-true (length identification) (row .page) (not-false (eqb (length identification) (row .page)) b);
-      latch = eqb-true (length latch) (row .page + row .page) (not-false (eqb (length latch) (row .page + row .page)) c);
-    }))))
+lent-fine device s cells identification latch e = lent-facts device (worldOf s cells identification latch) e .1
 
 -- The world.
 module _ (device : ℕ) (w : World) (n : ℕ) (en : n ≡ lentRefusal device (w .cells) (w .identification) (w .latch)) where
@@ -99,13 +85,7 @@ module _ (device : ℕ) (w : World) (n : ℕ) (en : n ≡ lentRefusal device (w 
     world-unsound h = rw (← en, z, sound-at, h)
 
 pub fine : (device : ℕ) (w : World) → worldRefusal device w ≡ 0 → Sound (rowOf device) w × Lent (rowOf device) w
-unfolding worldRefusal
-fine device w =
-    let n = lentRefusal device (w .cells) (w .identification) (w .latch) in
-    let P : ℕ → Type 0 = λ (m : ℕ). m ≡ 0 → Sound (rowOf device) w × Lent (rowOf device) w in
-    if-elim P (not (eqb n 0)) (λ h e. absurd (true≢false (sym h ∙ ap not (eq-eqb n 0 e))))
-    (λ h. if-elim P (not (isSound (rowOf device) (w .state) (w .latch))) (λ _ e. absurd (omega arith))
-    (λ b e. (reads (rowOf device) w .0 (not-false (isSound (rowOf device) (w .state) (w .latch)) b), lent-fine device (w .state) (w .cells) (w .identification) (w .latch) (eqb-true n 0 (not-false (eqb n 0) h)))))
+fine device w e = let facts = world-facts device w e in (facts .1, facts .2)
 
 -- The same, of the row that was looked up.
 pub fine-row : (device : ℕ) (w : World) (row : Row) (n : ℕ) → row ≡ rowOf device → n ≡ worldRefusal device w → n ≡ 0 → Widths row × Sound row w × Lent row w
