@@ -95,14 +95,14 @@ not-held-with-hold-low = refused (selecting false false true false)
 -- In a cycle, with the code of READ in and not turned away.
 abbrev reading : State → Bool → State
 reading s away =
-    withSelection 511 (record { selected = true; held = true; seen = false }) (record { bits = 7; value = 127; bytes = 6; last = 0 })
+    withSelection 511 (record { selected = true; held = true; seen = false }) (record { bits = 7; value = 127; bytes = 6; last = 255 })
     (record { instruction = Instruction.Read; away = away }) (record { sending = 0; q = Level.Low })
     (withPins (record { c = true; d = false; s = false; hold = true; w = true }) s)
 
 abbrev pub read-taken-in-a-cycle : Line
 read-taken-in-a-cycle = refused (reading (busy 5000) false)
 
--- At every edge: seven bits of 1, six bytes, the last cell, the last page, all the write time; held with HOLD high while C is high.
+-- At every edge: seven bits of 1, six bytes and any last one, the last cell, the last page, all the write time; held with HOLD high while C is high.
 abbrev pub sound-at-its-edges : Line
 sound-at-its-edges =
     event 1 (withState (reading (busy 5000) true) good) (Event.Clock true) (repliedAs 0 2 (withState (reading (busy 5000) true) good))
