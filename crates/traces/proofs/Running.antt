@@ -75,15 +75,15 @@ module _ (row : Row) (t : List ℕ) (limit : ℕ) (w₀ : World) (a₀ : List �
           same = k .same ∙ run-turn limit n row t (progressOf 0 at n w a) more ∙ ap (run (limit - (n + 1)) row t) (sym e ∙ shape) ∙ ap (λ (m : ℕ). run (limit - m) row t (progressOf 0 (q .taken) (q .done) (q .world) (q .answers))) (sym done);
         }
 
-    -- A short way: a pin record with room, whose event does this, and the place behind it.
+    -- A short way: a pin record with room, whose event does this.
     pub pin-on : (p b : ℕ) (e : Event) (u : World) → IsPin t at p → p ≤ 9 → pinEvent p ≡ e → refusal e (w .state) ≡ 0 → ltb n (length a) ≡ true → u ≡ step row e w → b ≡ answerByte (answer (u .state))
-        → {next : ℕ} → next ≡ at + 5 → Kept row t limit w₀ a₀ u (set a n b) next (n + 1)
-    pin-on p b e u h le ep z room eu eb en =
+        → Kept row t limit w₀ a₀ u (set a n b) (at + 5) (n + 1)
+    pin-on p b e u h le ep z room eu eb =
         let full : leb (length a) n ≡ false = lt-leb (length a) n (ltb-true n (length a) room) in
         let d = pin-done (w .state) h le (rw ep z) in
         let r : recordRefusal t at (leb (length a) n) (w .state) ≡ 0 = rw full (d .0) in
         let q : progressOf 0 (at + 2 + 3) (n + 1) u (set a n b) ≡ turn row t (progressOf 0 at n w a) = turn-does row t at n w a inside 3 b e u r (sym (h .size)) (sym ep ∙ d .1) eu eb in
-        subst (λ (m : ℕ). Kept row t limit w₀ a₀ u (set a n b) m (n + 1)) (omega (arith, en)) (goes-on (progressOf 0 (at + 2 + 3) (n + 1) u (set a n b)) q refl)
+        subst (λ (m : ℕ). Kept row t limit w₀ a₀ u (set a n b) m (n + 1)) (omega arith) (goes-on (progressOf 0 (at + 2 + 3) (n + 1) u (set a n b)) q refl)
 
 pub data-pin : (v : Bool) → pinEvent (2 + number v) ≡ Event.Data v
 data-pin true = refl

@@ -51,7 +51,6 @@ pub fn run_records(
                 state: t,
             };
         }
-        let next = at + 5;
         let way = sorted(row, t, trace, at, n < answers.len());
         match way {
             Usual::Other => {
@@ -72,31 +71,31 @@ pub fn run_records(
             Usual::Data(high) => {
                 t = quick_data(row, t, high);
                 answers[n] = answer(t);
-                at = next;
+                at = at + 5;
                 n = n + 1;
             }
             Usual::Bit => {
                 t = quick_bit(row, t);
                 answers[n] = answer(t);
-                at = next;
+                at = at + 5;
                 n = n + 1;
             }
             Usual::Still => {
                 t = quick_still(row, t);
                 answers[n] = answer(t);
-                at = next;
+                at = at + 5;
                 n = n + 1;
             }
             Usual::Shift => {
                 t = quick_shift(row, t);
                 answers[n] = answer(t);
-                at = next;
+                at = at + 5;
                 n = n + 1;
             }
             Usual::Whole => {
                 t = quick_whole(row, t);
                 answers[n] = answer(t);
-                at = next;
+                at = at + 5;
                 n = n + 1;
             }
         }

@@ -44,9 +44,6 @@ same-length-4 c = c .before .before .loop .inv .long
 returns : tie.Need-returns Inv-loop μ-loop
 returns c = ends-trace (c .before .before .before .before .before .before .before .before .args .row) (c .before .before .before .before .before .before .before .before .args .trace .now) (c .before .before .before .before .before .before .before .before .args .limit) _ _ (worldOf (c .before .before .loop .t) (c .before .before .loop .cells) (c .before .before .loop .identification) (c .before .before .loop .latch)) (c .before .before .loop .answers) (c .before .before .loop .at) (c .before .before .loop .n) (c .before .before .loop .inv) (c .if1 .taken)
 
-add-next : tie.Need-add-next Inv-loop μ-loop
-add-next c = omega (arith, c .if1 .left, c .before .before .before .before .before .before .before .before .good)
-
 sorted-requires : tie.Need-sorted-requires Inv-loop μ-loop
 sorted-requires c κs = (c .before .before .before .before .before .before .before .before .pre .0, c .before .before .loop .inv .sound .unsettled .inside, omega (arith, c .if1 .left))
 
@@ -89,6 +86,9 @@ answer-requires c κs = search needs
 slice-write-answers : tie.Need-slice-write-answers Inv-loop μ-loop
 slice-write-answers c = let k = known-way (c .before .before .before .before .before .before .before .before .before .before .before .before .before .before .args .row) (c .before .before .before .before .before .before .before .before .loop .t) (c .before .before .before .before .before .before .before .before .before .before .before .before .before .before .args .trace .now) (c .before .before .before .before .before .before .before .before .loop .at) (ltb (c .before .before .before .before .before .before .before .before .loop .n) (length (c .before .before .before .before .before .before .before .before .loop .answers))) (c .before .before .before .before .before .sorted .result) _ (c .before .before .before .way .given .1) (c .before .before .before .before .before .sorted .ensures) in ltb-true (c .before .before .before .before .before .before .before .before .loop .n) (length (c .before .before .before .before .before .before .before .before .loop .answers)) (k .0)
 
+add-at : tie.Need-add-at Inv-loop μ-loop
+add-at c = let k = known-way (c .before .before .before .before .before .before .before .before .before .before .before .before .before .before .args .row) (c .before .before .before .before .before .before .before .before .loop .t) (c .before .before .before .before .before .before .before .before .before .before .before .before .before .before .args .trace .now) (c .before .before .before .before .before .before .before .before .loop .at) (ltb (c .before .before .before .before .before .before .before .before .loop .n) (length (c .before .before .before .before .before .before .before .before .loop .answers))) (c .before .before .before .before .before .sorted .result) _ (c .before .before .before .way .given .1) (c .before .before .before .before .before .sorted .ensures) in let w = k .1 .whole in omega (arith, w, c .before .before .before .before .before .before .if1 .left, c .before .before .before .before .before .before .before .before .before .before .before .before .before .before .good)
+
 add-n : tie.Need-add-n Inv-loop μ-loop
 add-n c = omega (arith, c .before .before .before .before .before .before .before .loop-test .taken, c .before .before .before .before .before .before .before .before .before .before .before .before .before .before .fits .limit .fits)
 
@@ -96,7 +96,7 @@ loop-less-2 : tie.Need-loop-less-2 Inv-loop μ-loop
 loop-less-2 c = omega (arith, c .before .before .before .before .before .before .before .loop-test .taken)
 
 loop-again-2 : tie.Need-loop-again-2 Inv-loop μ-loop
-loop-again-2 c = let k = known-way (c .before .before .before .before .before .before .before .before .before .before .before .before .before .before .args .row) (c .before .before .before .before .before .before .before .before .loop .t) (c .before .before .before .before .before .before .before .before .before .before .before .before .before .before .args .trace .now) (c .before .before .before .before .before .before .before .before .loop .at) (ltb (c .before .before .before .before .before .before .before .before .loop .n) (length (c .before .before .before .before .before .before .before .before .loop .answers))) (c .before .before .before .before .before .sorted .result) _ (c .before .before .before .way .given .1) (c .before .before .before .before .before .sorted .ensures) in pin-on (c .before .before .before .before .before .before .before .before .before .before .before .before .before .before .args .row) (c .before .before .before .before .before .before .before .before .before .before .before .before .before .before .args .trace .now) (c .before .before .before .before .before .before .before .before .before .before .before .before .before .before .args .limit) _ _ (worldOf (c .before .before .before .before .before .before .before .before .loop .t) (c .before .before .before .before .before .before .before .before .loop .cells) (c .before .before .before .before .before .before .before .before .loop .identification) (c .before .before .before .before .before .before .before .before .loop .latch)) (c .before .before .before .before .before .before .before .before .loop .answers) (c .before .before .before .before .before .before .before .before .loop .at) (c .before .before .before .before .before .before .before .before .loop .n) (c .before .before .before .before .before .before .before .before .loop .inv) (c .before .before .before .before .before .before .before .before .before .before .before .before .before .before .pre .0) (c .before .before .before .before .before .before .if1 .left) (c .before .before .before .before .before .before .before .loop-test .taken) _ (c .answer .result) (Event.Data _) (worldOf (c .before .quick-data .result) (c .before .before .before .before .before .before .before .before .loop .cells) (c .before .before .before .before .before .before .before .before .loop .identification) (c .before .before .before .before .before .before .before .before .loop .latch)) (k .1) (data-small (c .before .before .before .way .given .0 .0)) (data-pin (c .before .before .before .way .given .0 .0)) refl (k .0) (data-alone (c .before .before .before .before .before .before .before .before .before .before .before .before .before .before .args .row) (c .before .before .before .before .before .before .before .before .loop .t) (c .before .quick-data .result) (c .before .before .before .before .before .before .before .before .loop .cells) (c .before .before .before .before .before .before .before .before .loop .identification) (c .before .before .before .before .before .before .before .before .loop .latch) _ (c .before .quick-data .ensures)) (c .answer .ensures) (omega arith)
+loop-again-2 c = let k = known-way (c .before .before .before .before .before .before .before .before .before .before .before .before .before .before .args .row) (c .before .before .before .before .before .before .before .before .loop .t) (c .before .before .before .before .before .before .before .before .before .before .before .before .before .before .args .trace .now) (c .before .before .before .before .before .before .before .before .loop .at) (ltb (c .before .before .before .before .before .before .before .before .loop .n) (length (c .before .before .before .before .before .before .before .before .loop .answers))) (c .before .before .before .before .before .sorted .result) _ (c .before .before .before .way .given .1) (c .before .before .before .before .before .sorted .ensures) in pin-on (c .before .before .before .before .before .before .before .before .before .before .before .before .before .before .args .row) (c .before .before .before .before .before .before .before .before .before .before .before .before .before .before .args .trace .now) (c .before .before .before .before .before .before .before .before .before .before .before .before .before .before .args .limit) _ _ (worldOf (c .before .before .before .before .before .before .before .before .loop .t) (c .before .before .before .before .before .before .before .before .loop .cells) (c .before .before .before .before .before .before .before .before .loop .identification) (c .before .before .before .before .before .before .before .before .loop .latch)) (c .before .before .before .before .before .before .before .before .loop .answers) (c .before .before .before .before .before .before .before .before .loop .at) (c .before .before .before .before .before .before .before .before .loop .n) (c .before .before .before .before .before .before .before .before .loop .inv) (c .before .before .before .before .before .before .before .before .before .before .before .before .before .before .pre .0) (c .before .before .before .before .before .before .if1 .left) (c .before .before .before .before .before .before .before .loop-test .taken) _ (c .answer .result) (Event.Data _) (worldOf (c .before .quick-data .result) (c .before .before .before .before .before .before .before .before .loop .cells) (c .before .before .before .before .before .before .before .before .loop .identification) (c .before .before .before .before .before .before .before .before .loop .latch)) (k .1) (data-small (c .before .before .before .way .given .0 .0)) (data-pin (c .before .before .before .way .given .0 .0)) refl (k .0) (data-alone (c .before .before .before .before .before .before .before .before .before .before .before .before .before .before .args .row) (c .before .before .before .before .before .before .before .before .loop .t) (c .before .quick-data .result) (c .before .before .before .before .before .before .before .before .loop .cells) (c .before .before .before .before .before .before .before .before .loop .identification) (c .before .before .before .before .before .before .before .before .loop .latch) _ (c .before .quick-data .ensures)) (c .answer .ensures)
 
 enum-told-2 : tie.Need-enum-told-2 Inv-loop μ-loop
 enum-told-2 c = search needs
@@ -110,6 +110,9 @@ answer-requires-2 c κs = search needs
 slice-write-answers-2 : tie.Need-slice-write-answers-2 Inv-loop μ-loop
 slice-write-answers-2 c = let k = known-way (c .before .before .before .before .before .before .before .before .before .before .before .before .before .args .row) (c .before .before .before .before .before .before .before .loop .t) (c .before .before .before .before .before .before .before .before .before .before .before .before .before .args .trace .now) (c .before .before .before .before .before .before .before .loop .at) (ltb (c .before .before .before .before .before .before .before .loop .n) (length (c .before .before .before .before .before .before .before .loop .answers))) (c .before .before .before .before .sorted .result) Usual.Bit (c .before .before .enum-told2 .given .1) (c .before .before .before .before .sorted .ensures) in ltb-true (c .before .before .before .before .before .before .before .loop .n) (length (c .before .before .before .before .before .before .before .loop .answers)) (k .0)
 
+add-at-2 : tie.Need-add-at-2 Inv-loop μ-loop
+add-at-2 c = let k = known-way (c .before .before .before .before .before .before .before .before .before .before .before .before .before .args .row) (c .before .before .before .before .before .before .before .loop .t) (c .before .before .before .before .before .before .before .before .before .before .before .before .before .args .trace .now) (c .before .before .before .before .before .before .before .loop .at) (ltb (c .before .before .before .before .before .before .before .loop .n) (length (c .before .before .before .before .before .before .before .loop .answers))) (c .before .before .before .before .sorted .result) Usual.Bit (c .before .before .enum-told2 .given .1) (c .before .before .before .before .sorted .ensures) in let w = k .1 .whole in omega (arith, w, c .before .before .before .before .before .if1 .left, c .before .before .before .before .before .before .before .before .before .before .before .before .before .good)
+
 add-n-2 : tie.Need-add-n-2 Inv-loop μ-loop
 add-n-2 c = omega (arith, c .before .before .before .before .before .before .loop-test .taken, c .before .before .before .before .before .before .before .before .before .before .before .before .before .fits .limit .fits)
 
@@ -117,7 +120,7 @@ loop-less-3 : tie.Need-loop-less-3 Inv-loop μ-loop
 loop-less-3 c = omega (arith, c .before .before .before .before .before .before .loop-test .taken)
 
 loop-again-3 : tie.Need-loop-again-3 Inv-loop μ-loop
-loop-again-3 c = let k = known-way (c .before .before .before .before .before .before .before .before .before .before .before .before .before .args .row) (c .before .before .before .before .before .before .before .loop .t) (c .before .before .before .before .before .before .before .before .before .before .before .before .before .args .trace .now) (c .before .before .before .before .before .before .before .loop .at) (ltb (c .before .before .before .before .before .before .before .loop .n) (length (c .before .before .before .before .before .before .before .loop .answers))) (c .before .before .before .before .sorted .result) Usual.Bit (c .before .before .enum-told2 .given .1) (c .before .before .before .before .sorted .ensures) in pin-on (c .before .before .before .before .before .before .before .before .before .before .before .before .before .args .row) (c .before .before .before .before .before .before .before .before .before .before .before .before .before .args .trace .now) (c .before .before .before .before .before .before .before .before .before .before .before .before .before .args .limit) _ _ (worldOf (c .before .before .before .before .before .before .before .loop .t) (c .before .before .before .before .before .before .before .loop .cells) (c .before .before .before .before .before .before .before .loop .identification) (c .before .before .before .before .before .before .before .loop .latch)) (c .before .before .before .before .before .before .before .loop .answers) (c .before .before .before .before .before .before .before .loop .at) (c .before .before .before .before .before .before .before .loop .n) (c .before .before .before .before .before .before .before .loop .inv) (c .before .before .before .before .before .before .before .before .before .before .before .before .before .pre .0) (c .before .before .before .before .before .if1 .left) (c .before .before .before .before .before .before .loop-test .taken) 1 (c .answer2 .result) (Event.Clock true) (worldOf (c .before .quick-bit .result) (c .before .before .before .before .before .before .before .loop .cells) (c .before .before .before .before .before .before .before .loop .identification) (c .before .before .before .before .before .before .before .loop .latch)) (k .1) (omega arith) refl refl (k .0) (bit-alone (c .before .before .before .before .before .before .before .before .before .before .before .before .before .args .row) (c .before .before .before .before .before .before .before .loop .t) (c .before .quick-bit .result) (c .before .before .before .before .before .before .before .loop .cells) (c .before .before .before .before .before .before .before .loop .identification) (c .before .before .before .before .before .before .before .loop .latch) (k .2 .2) (c .before .quick-bit .ensures)) (c .answer2 .ensures) (omega arith)
+loop-again-3 c = let k = known-way (c .before .before .before .before .before .before .before .before .before .before .before .before .before .args .row) (c .before .before .before .before .before .before .before .loop .t) (c .before .before .before .before .before .before .before .before .before .before .before .before .before .args .trace .now) (c .before .before .before .before .before .before .before .loop .at) (ltb (c .before .before .before .before .before .before .before .loop .n) (length (c .before .before .before .before .before .before .before .loop .answers))) (c .before .before .before .before .sorted .result) Usual.Bit (c .before .before .enum-told2 .given .1) (c .before .before .before .before .sorted .ensures) in pin-on (c .before .before .before .before .before .before .before .before .before .before .before .before .before .args .row) (c .before .before .before .before .before .before .before .before .before .before .before .before .before .args .trace .now) (c .before .before .before .before .before .before .before .before .before .before .before .before .before .args .limit) _ _ (worldOf (c .before .before .before .before .before .before .before .loop .t) (c .before .before .before .before .before .before .before .loop .cells) (c .before .before .before .before .before .before .before .loop .identification) (c .before .before .before .before .before .before .before .loop .latch)) (c .before .before .before .before .before .before .before .loop .answers) (c .before .before .before .before .before .before .before .loop .at) (c .before .before .before .before .before .before .before .loop .n) (c .before .before .before .before .before .before .before .loop .inv) (c .before .before .before .before .before .before .before .before .before .before .before .before .before .pre .0) (c .before .before .before .before .before .if1 .left) (c .before .before .before .before .before .before .loop-test .taken) 1 (c .answer2 .result) (Event.Clock true) (worldOf (c .before .quick-bit .result) (c .before .before .before .before .before .before .before .loop .cells) (c .before .before .before .before .before .before .before .loop .identification) (c .before .before .before .before .before .before .before .loop .latch)) (k .1) (omega arith) refl refl (k .0) (bit-alone (c .before .before .before .before .before .before .before .before .before .before .before .before .before .args .row) (c .before .before .before .before .before .before .before .loop .t) (c .before .quick-bit .result) (c .before .before .before .before .before .before .before .loop .cells) (c .before .before .before .before .before .before .before .loop .identification) (c .before .before .before .before .before .before .before .loop .latch) (k .2 .2) (c .before .quick-bit .ensures)) (c .answer2 .ensures)
 
 enum-told-3 : tie.Need-enum-told-3 Inv-loop μ-loop
 enum-told-3 c = search needs
@@ -131,6 +134,9 @@ answer-requires-3 c κs = search needs
 slice-write-answers-3 : tie.Need-slice-write-answers-3 Inv-loop μ-loop
 slice-write-answers-3 c = let k = known-way (c .before .before .before .before .before .before .before .before .before .before .before .before .before .args .row) (c .before .before .before .before .before .before .before .loop .t) (c .before .before .before .before .before .before .before .before .before .before .before .before .before .args .trace .now) (c .before .before .before .before .before .before .before .loop .at) (ltb (c .before .before .before .before .before .before .before .loop .n) (length (c .before .before .before .before .before .before .before .loop .answers))) (c .before .before .before .before .sorted .result) Usual.Still (c .before .before .enum-told3 .given .1) (c .before .before .before .before .sorted .ensures) in ltb-true (c .before .before .before .before .before .before .before .loop .n) (length (c .before .before .before .before .before .before .before .loop .answers)) (k .0)
 
+add-at-3 : tie.Need-add-at-3 Inv-loop μ-loop
+add-at-3 c = let k = known-way (c .before .before .before .before .before .before .before .before .before .before .before .before .before .args .row) (c .before .before .before .before .before .before .before .loop .t) (c .before .before .before .before .before .before .before .before .before .before .before .before .before .args .trace .now) (c .before .before .before .before .before .before .before .loop .at) (ltb (c .before .before .before .before .before .before .before .loop .n) (length (c .before .before .before .before .before .before .before .loop .answers))) (c .before .before .before .before .sorted .result) Usual.Still (c .before .before .enum-told3 .given .1) (c .before .before .before .before .sorted .ensures) in let w = k .1 .whole in omega (arith, w, c .before .before .before .before .before .if1 .left, c .before .before .before .before .before .before .before .before .before .before .before .before .before .good)
+
 add-n-3 : tie.Need-add-n-3 Inv-loop μ-loop
 add-n-3 c = omega (arith, c .before .before .before .before .before .before .loop-test .taken, c .before .before .before .before .before .before .before .before .before .before .before .before .before .fits .limit .fits)
 
@@ -138,7 +144,7 @@ loop-less-4 : tie.Need-loop-less-4 Inv-loop μ-loop
 loop-less-4 c = omega (arith, c .before .before .before .before .before .before .loop-test .taken)
 
 loop-again-4 : tie.Need-loop-again-4 Inv-loop μ-loop
-loop-again-4 c = let k = known-way (c .before .before .before .before .before .before .before .before .before .before .before .before .before .args .row) (c .before .before .before .before .before .before .before .loop .t) (c .before .before .before .before .before .before .before .before .before .before .before .before .before .args .trace .now) (c .before .before .before .before .before .before .before .loop .at) (ltb (c .before .before .before .before .before .before .before .loop .n) (length (c .before .before .before .before .before .before .before .loop .answers))) (c .before .before .before .before .sorted .result) Usual.Still (c .before .before .enum-told3 .given .1) (c .before .before .before .before .sorted .ensures) in pin-on (c .before .before .before .before .before .before .before .before .before .before .before .before .before .args .row) (c .before .before .before .before .before .before .before .before .before .before .before .before .before .args .trace .now) (c .before .before .before .before .before .before .before .before .before .before .before .before .before .args .limit) _ _ (worldOf (c .before .before .before .before .before .before .before .loop .t) (c .before .before .before .before .before .before .before .loop .cells) (c .before .before .before .before .before .before .before .loop .identification) (c .before .before .before .before .before .before .before .loop .latch)) (c .before .before .before .before .before .before .before .loop .answers) (c .before .before .before .before .before .before .before .loop .at) (c .before .before .before .before .before .before .before .loop .n) (c .before .before .before .before .before .before .before .loop .inv) (c .before .before .before .before .before .before .before .before .before .before .before .before .before .pre .0) (c .before .before .before .before .before .if1 .left) (c .before .before .before .before .before .before .loop-test .taken) 0 (c .answer3 .result) (Event.Clock false) (worldOf (c .before .quick-still .result) (c .before .before .before .before .before .before .before .loop .cells) (c .before .before .before .before .before .before .before .loop .identification) (c .before .before .before .before .before .before .before .loop .latch)) (k .1) (omega arith) refl refl (k .0) (still-alone (c .before .before .before .before .before .before .before .before .before .before .before .before .before .args .row) (c .before .before .before .before .before .before .before .loop .t) (c .before .quick-still .result) (c .before .before .before .before .before .before .before .loop .cells) (c .before .before .before .before .before .before .before .loop .identification) (c .before .before .before .before .before .before .before .loop .latch) (k .2 .0) (k .2 .1) (c .before .quick-still .ensures)) (c .answer3 .ensures) (omega arith)
+loop-again-4 c = let k = known-way (c .before .before .before .before .before .before .before .before .before .before .before .before .before .args .row) (c .before .before .before .before .before .before .before .loop .t) (c .before .before .before .before .before .before .before .before .before .before .before .before .before .args .trace .now) (c .before .before .before .before .before .before .before .loop .at) (ltb (c .before .before .before .before .before .before .before .loop .n) (length (c .before .before .before .before .before .before .before .loop .answers))) (c .before .before .before .before .sorted .result) Usual.Still (c .before .before .enum-told3 .given .1) (c .before .before .before .before .sorted .ensures) in pin-on (c .before .before .before .before .before .before .before .before .before .before .before .before .before .args .row) (c .before .before .before .before .before .before .before .before .before .before .before .before .before .args .trace .now) (c .before .before .before .before .before .before .before .before .before .before .before .before .before .args .limit) _ _ (worldOf (c .before .before .before .before .before .before .before .loop .t) (c .before .before .before .before .before .before .before .loop .cells) (c .before .before .before .before .before .before .before .loop .identification) (c .before .before .before .before .before .before .before .loop .latch)) (c .before .before .before .before .before .before .before .loop .answers) (c .before .before .before .before .before .before .before .loop .at) (c .before .before .before .before .before .before .before .loop .n) (c .before .before .before .before .before .before .before .loop .inv) (c .before .before .before .before .before .before .before .before .before .before .before .before .before .pre .0) (c .before .before .before .before .before .if1 .left) (c .before .before .before .before .before .before .loop-test .taken) 0 (c .answer3 .result) (Event.Clock false) (worldOf (c .before .quick-still .result) (c .before .before .before .before .before .before .before .loop .cells) (c .before .before .before .before .before .before .before .loop .identification) (c .before .before .before .before .before .before .before .loop .latch)) (k .1) (omega arith) refl refl (k .0) (still-alone (c .before .before .before .before .before .before .before .before .before .before .before .before .before .args .row) (c .before .before .before .before .before .before .before .loop .t) (c .before .quick-still .result) (c .before .before .before .before .before .before .before .loop .cells) (c .before .before .before .before .before .before .before .loop .identification) (c .before .before .before .before .before .before .before .loop .latch) (k .2 .0) (k .2 .1) (c .before .quick-still .ensures)) (c .answer3 .ensures)
 
 enum-told-4 : tie.Need-enum-told-4 Inv-loop μ-loop
 enum-told-4 c = search needs
@@ -152,6 +158,9 @@ answer-requires-4 c κs = search needs
 slice-write-answers-4 : tie.Need-slice-write-answers-4 Inv-loop μ-loop
 slice-write-answers-4 c = let k = known-way (c .before .before .before .before .before .before .before .before .before .before .before .before .before .args .row) (c .before .before .before .before .before .before .before .loop .t) (c .before .before .before .before .before .before .before .before .before .before .before .before .before .args .trace .now) (c .before .before .before .before .before .before .before .loop .at) (ltb (c .before .before .before .before .before .before .before .loop .n) (length (c .before .before .before .before .before .before .before .loop .answers))) (c .before .before .before .before .sorted .result) Usual.Shift (c .before .before .enum-told4 .given .1) (c .before .before .before .before .sorted .ensures) in ltb-true (c .before .before .before .before .before .before .before .loop .n) (length (c .before .before .before .before .before .before .before .loop .answers)) (k .0)
 
+add-at-4 : tie.Need-add-at-4 Inv-loop μ-loop
+add-at-4 c = let k = known-way (c .before .before .before .before .before .before .before .before .before .before .before .before .before .args .row) (c .before .before .before .before .before .before .before .loop .t) (c .before .before .before .before .before .before .before .before .before .before .before .before .before .args .trace .now) (c .before .before .before .before .before .before .before .loop .at) (ltb (c .before .before .before .before .before .before .before .loop .n) (length (c .before .before .before .before .before .before .before .loop .answers))) (c .before .before .before .before .sorted .result) Usual.Shift (c .before .before .enum-told4 .given .1) (c .before .before .before .before .sorted .ensures) in let w = k .1 .whole in omega (arith, w, c .before .before .before .before .before .if1 .left, c .before .before .before .before .before .before .before .before .before .before .before .before .before .good)
+
 add-n-4 : tie.Need-add-n-4 Inv-loop μ-loop
 add-n-4 c = omega (arith, c .before .before .before .before .before .before .loop-test .taken, c .before .before .before .before .before .before .before .before .before .before .before .before .before .fits .limit .fits)
 
@@ -159,7 +168,7 @@ loop-less-5 : tie.Need-loop-less-5 Inv-loop μ-loop
 loop-less-5 c = omega (arith, c .before .before .before .before .before .before .loop-test .taken)
 
 loop-again-5 : tie.Need-loop-again-5 Inv-loop μ-loop
-loop-again-5 c = let k = known-way (c .before .before .before .before .before .before .before .before .before .before .before .before .before .args .row) (c .before .before .before .before .before .before .before .loop .t) (c .before .before .before .before .before .before .before .before .before .before .before .before .before .args .trace .now) (c .before .before .before .before .before .before .before .loop .at) (ltb (c .before .before .before .before .before .before .before .loop .n) (length (c .before .before .before .before .before .before .before .loop .answers))) (c .before .before .before .before .sorted .result) Usual.Shift (c .before .before .enum-told4 .given .1) (c .before .before .before .before .sorted .ensures) in pin-on (c .before .before .before .before .before .before .before .before .before .before .before .before .before .args .row) (c .before .before .before .before .before .before .before .before .before .before .before .before .before .args .trace .now) (c .before .before .before .before .before .before .before .before .before .before .before .before .before .args .limit) _ _ (worldOf (c .before .before .before .before .before .before .before .loop .t) (c .before .before .before .before .before .before .before .loop .cells) (c .before .before .before .before .before .before .before .loop .identification) (c .before .before .before .before .before .before .before .loop .latch)) (c .before .before .before .before .before .before .before .loop .answers) (c .before .before .before .before .before .before .before .loop .at) (c .before .before .before .before .before .before .before .loop .n) (c .before .before .before .before .before .before .before .loop .inv) (c .before .before .before .before .before .before .before .before .before .before .before .before .before .pre .0) (c .before .before .before .before .before .if1 .left) (c .before .before .before .before .before .before .loop-test .taken) 0 (c .answer4 .result) (Event.Clock false) (worldOf (c .before .quick-shift .result) (c .before .before .before .before .before .before .before .loop .cells) (c .before .before .before .before .before .before .before .loop .identification) (c .before .before .before .before .before .before .before .loop .latch)) (k .1) (omega arith) refl refl (k .0) (shift-alone (c .before .before .before .before .before .before .before .before .before .before .before .before .before .args .row) (c .before .before .before .before .before .before .before .loop .t) (c .before .quick-shift .result) (c .before .before .before .before .before .before .before .loop .cells) (c .before .before .before .before .before .before .before .loop .identification) (c .before .before .before .before .before .before .before .loop .latch) (k .2 .0) (k .2 .1) (k .2 .2) (k .2 .3) (c .before .quick-shift .ensures)) (c .answer4 .ensures) (omega arith)
+loop-again-5 c = let k = known-way (c .before .before .before .before .before .before .before .before .before .before .before .before .before .args .row) (c .before .before .before .before .before .before .before .loop .t) (c .before .before .before .before .before .before .before .before .before .before .before .before .before .args .trace .now) (c .before .before .before .before .before .before .before .loop .at) (ltb (c .before .before .before .before .before .before .before .loop .n) (length (c .before .before .before .before .before .before .before .loop .answers))) (c .before .before .before .before .sorted .result) Usual.Shift (c .before .before .enum-told4 .given .1) (c .before .before .before .before .sorted .ensures) in pin-on (c .before .before .before .before .before .before .before .before .before .before .before .before .before .args .row) (c .before .before .before .before .before .before .before .before .before .before .before .before .before .args .trace .now) (c .before .before .before .before .before .before .before .before .before .before .before .before .before .args .limit) _ _ (worldOf (c .before .before .before .before .before .before .before .loop .t) (c .before .before .before .before .before .before .before .loop .cells) (c .before .before .before .before .before .before .before .loop .identification) (c .before .before .before .before .before .before .before .loop .latch)) (c .before .before .before .before .before .before .before .loop .answers) (c .before .before .before .before .before .before .before .loop .at) (c .before .before .before .before .before .before .before .loop .n) (c .before .before .before .before .before .before .before .loop .inv) (c .before .before .before .before .before .before .before .before .before .before .before .before .before .pre .0) (c .before .before .before .before .before .if1 .left) (c .before .before .before .before .before .before .loop-test .taken) 0 (c .answer4 .result) (Event.Clock false) (worldOf (c .before .quick-shift .result) (c .before .before .before .before .before .before .before .loop .cells) (c .before .before .before .before .before .before .before .loop .identification) (c .before .before .before .before .before .before .before .loop .latch)) (k .1) (omega arith) refl refl (k .0) (shift-alone (c .before .before .before .before .before .before .before .before .before .before .before .before .before .args .row) (c .before .before .before .before .before .before .before .loop .t) (c .before .quick-shift .result) (c .before .before .before .before .before .before .before .loop .cells) (c .before .before .before .before .before .before .before .loop .identification) (c .before .before .before .before .before .before .before .loop .latch) (k .2 .0) (k .2 .1) (k .2 .2) (k .2 .3) (c .before .quick-shift .ensures)) (c .answer4 .ensures)
 
 enum-told-5 : tie.Need-enum-told-5 Inv-loop μ-loop
 enum-told-5 c = search needs
@@ -173,6 +182,9 @@ answer-requires-5 c κs = search needs
 slice-write-answers-5 : tie.Need-slice-write-answers-5 Inv-loop μ-loop
 slice-write-answers-5 c = let k = known-way (c .before .before .before .before .before .before .before .before .before .before .before .before .before .args .row) (c .before .before .before .before .before .before .before .loop .t) (c .before .before .before .before .before .before .before .before .before .before .before .before .before .args .trace .now) (c .before .before .before .before .before .before .before .loop .at) (ltb (c .before .before .before .before .before .before .before .loop .n) (length (c .before .before .before .before .before .before .before .loop .answers))) (c .before .before .before .before .sorted .result) Usual.Whole (c .before .before .enum-told5 .given .1) (c .before .before .before .before .sorted .ensures) in ltb-true (c .before .before .before .before .before .before .before .loop .n) (length (c .before .before .before .before .before .before .before .loop .answers)) (k .0)
 
+add-at-5 : tie.Need-add-at-5 Inv-loop μ-loop
+add-at-5 c = let k = known-way (c .before .before .before .before .before .before .before .before .before .before .before .before .before .args .row) (c .before .before .before .before .before .before .before .loop .t) (c .before .before .before .before .before .before .before .before .before .before .before .before .before .args .trace .now) (c .before .before .before .before .before .before .before .loop .at) (ltb (c .before .before .before .before .before .before .before .loop .n) (length (c .before .before .before .before .before .before .before .loop .answers))) (c .before .before .before .before .sorted .result) Usual.Whole (c .before .before .enum-told5 .given .1) (c .before .before .before .before .sorted .ensures) in let w = k .1 .whole in omega (arith, w, c .before .before .before .before .before .if1 .left, c .before .before .before .before .before .before .before .before .before .before .before .before .before .good)
+
 add-n-5 : tie.Need-add-n-5 Inv-loop μ-loop
 add-n-5 c = omega (arith, c .before .before .before .before .before .before .loop-test .taken, c .before .before .before .before .before .before .before .before .before .before .before .before .before .fits .limit .fits)
 
@@ -180,7 +192,7 @@ loop-less-6 : tie.Need-loop-less-6 Inv-loop μ-loop
 loop-less-6 c = omega (arith, c .before .before .before .before .before .before .loop-test .taken)
 
 loop-again-6 : tie.Need-loop-again-6 Inv-loop μ-loop
-loop-again-6 c = let k = known-way (c .before .before .before .before .before .before .before .before .before .before .before .before .before .args .row) (c .before .before .before .before .before .before .before .loop .t) (c .before .before .before .before .before .before .before .before .before .before .before .before .before .args .trace .now) (c .before .before .before .before .before .before .before .loop .at) (ltb (c .before .before .before .before .before .before .before .loop .n) (length (c .before .before .before .before .before .before .before .loop .answers))) (c .before .before .before .before .sorted .result) Usual.Whole (c .before .before .enum-told5 .given .1) (c .before .before .before .before .sorted .ensures) in pin-on (c .before .before .before .before .before .before .before .before .before .before .before .before .before .args .row) (c .before .before .before .before .before .before .before .before .before .before .before .before .before .args .trace .now) (c .before .before .before .before .before .before .before .before .before .before .before .before .before .args .limit) _ _ (worldOf (c .before .before .before .before .before .before .before .loop .t) (c .before .before .before .before .before .before .before .loop .cells) (c .before .before .before .before .before .before .before .loop .identification) (c .before .before .before .before .before .before .before .loop .latch)) (c .before .before .before .before .before .before .before .loop .answers) (c .before .before .before .before .before .before .before .loop .at) (c .before .before .before .before .before .before .before .loop .n) (c .before .before .before .before .before .before .before .loop .inv) (c .before .before .before .before .before .before .before .before .before .before .before .before .before .pre .0) (c .before .before .before .before .before .if1 .left) (c .before .before .before .before .before .before .loop-test .taken) 1 (c .answer5 .result) (Event.Clock true) (worldOf (c .before .quick-whole .result) (c .before .before .before .before .before .before .before .loop .cells) (c .before .before .before .before .before .before .before .loop .identification) (c .before .before .before .before .before .before .before .loop .latch)) (k .1) (omega arith) refl refl (k .0) (whole-alone (c .before .before .before .before .before .before .before .before .before .before .before .before .before .args .row) (c .before .before .before .before .before .before .before .loop .t) (c .before .quick-whole .result) (c .before .before .before .before .before .before .before .loop .cells) (c .before .before .before .before .before .before .before .loop .identification) (c .before .before .before .before .before .before .before .loop .latch) (k .2 .3) (c .before .quick-whole .ensures)) (c .answer5 .ensures) (omega arith)
+loop-again-6 c = let k = known-way (c .before .before .before .before .before .before .before .before .before .before .before .before .before .args .row) (c .before .before .before .before .before .before .before .loop .t) (c .before .before .before .before .before .before .before .before .before .before .before .before .before .args .trace .now) (c .before .before .before .before .before .before .before .loop .at) (ltb (c .before .before .before .before .before .before .before .loop .n) (length (c .before .before .before .before .before .before .before .loop .answers))) (c .before .before .before .before .sorted .result) Usual.Whole (c .before .before .enum-told5 .given .1) (c .before .before .before .before .sorted .ensures) in pin-on (c .before .before .before .before .before .before .before .before .before .before .before .before .before .args .row) (c .before .before .before .before .before .before .before .before .before .before .before .before .before .args .trace .now) (c .before .before .before .before .before .before .before .before .before .before .before .before .before .args .limit) _ _ (worldOf (c .before .before .before .before .before .before .before .loop .t) (c .before .before .before .before .before .before .before .loop .cells) (c .before .before .before .before .before .before .before .loop .identification) (c .before .before .before .before .before .before .before .loop .latch)) (c .before .before .before .before .before .before .before .loop .answers) (c .before .before .before .before .before .before .before .loop .at) (c .before .before .before .before .before .before .before .loop .n) (c .before .before .before .before .before .before .before .loop .inv) (c .before .before .before .before .before .before .before .before .before .before .before .before .before .pre .0) (c .before .before .before .before .before .if1 .left) (c .before .before .before .before .before .before .loop-test .taken) 1 (c .answer5 .result) (Event.Clock true) (worldOf (c .before .quick-whole .result) (c .before .before .before .before .before .before .before .loop .cells) (c .before .before .before .before .before .before .before .loop .identification) (c .before .before .before .before .before .before .before .loop .latch)) (k .1) (omega arith) refl refl (k .0) (whole-alone (c .before .before .before .before .before .before .before .before .before .before .before .before .before .args .row) (c .before .before .before .before .before .before .before .loop .t) (c .before .quick-whole .result) (c .before .before .before .before .before .before .before .loop .cells) (c .before .before .before .before .before .before .before .loop .identification) (c .before .before .before .before .before .before .before .loop .latch) (k .2 .3) (c .before .quick-whole .ensures)) (c .answer5 .ensures)
 
 same-length-9 : tie.Need-same-length-9 Inv-loop μ-loop
 same-length-9 c = omega (arith, c .before .loop .inv .lent .cells, c .before .before .before .before .before .before .before .pre .2 .cells)
@@ -209,7 +221,6 @@ run-records-spec =
     same-length-3
     same-length-4
     returns
-    add-next
     sorted-requires
     enum-told
     one-requires
@@ -224,6 +235,7 @@ run-records-spec =
     quick-data-requires
     answer-requires
     slice-write-answers
+    add-at
     add-n
     loop-less-2
     loop-again-2
@@ -231,6 +243,7 @@ run-records-spec =
     quick-bit-requires
     answer-requires-2
     slice-write-answers-2
+    add-at-2
     add-n-2
     loop-less-3
     loop-again-3
@@ -238,6 +251,7 @@ run-records-spec =
     quick-still-requires
     answer-requires-3
     slice-write-answers-3
+    add-at-3
     add-n-3
     loop-less-4
     loop-again-4
@@ -245,6 +259,7 @@ run-records-spec =
     quick-shift-requires
     answer-requires-4
     slice-write-answers-4
+    add-at-4
     add-n-4
     loop-less-5
     loop-again-5
@@ -252,6 +267,7 @@ run-records-spec =
     quick-whole-requires
     answer-requires-5
     slice-write-answers-5
+    add-at-5
     add-n-5
     loop-less-6
     loop-again-6
