@@ -141,6 +141,10 @@ unknown-code : Seen spec.unknown-code
 unfolding opened
 unknown-code = refl
 
+address-above-the-array : Seen spec.address-above-the-array
+unfolding opened
+address-above-the-array = refl
+
 rdid-past-the-page : Seen spec.rdid-past-the-page
 unfolding opened
 rdid-past-the-page = refl
@@ -189,6 +193,6 @@ readings =
     and power-keeps-what-is-stored and power-loses-a-command and turned-away-to-the-end and code-complete-after-the-cycle and wrdi-in-a-cycle
     and wren-of-two-bytes and wrdi-exactly and status-of-the-m95040 and status-of-the-m95m01 and status-of-the-m95m02
     and upper-quarter-of-the-m95m01 and upper-quarter-of-the-m95m02 and identification-of-the-m95m01 and identification-of-the-m95m02
-    and protect-low-and-wren and protect-low-and-wrsr and protect-low-and-write and unknown-code and rdid-past-the-page and wrid-rolls
+    and protect-low-and-wren and protect-low-and-wrsr and protect-low-and-write and unknown-code and address-above-the-array and rdid-past-the-page and wrid-rolls
     and wrid-when-locked and write-with-all-protected and wrid-with-all-protected and lid-with-all-protected and marks-cleared-by-write
     and marks-cleared-by-82h and latch-without-wel and lid-byte-not-latched and none

@@ -192,6 +192,10 @@ protect-low-and-write = (1, wren ∷ events (Event.Protect false ∷ []) ∷ say
 abbrev pub unknown-code : Line
 unknown-code = (2, ask (0x00 ∷ 0x05 ∷ []) 1 ∷ ask (0x00 ∷ 0x00 ∷ 0x05 ∷ []) 1 ∷ [], silence ∷ silence ∷ [])
 
+-- Address bits above the array are of no account: C005h is cell 5 of the M95128.
+abbrev pub address-above-the-array : Line
+address-above-the-array = (2, wren ∷ say (0x02 ∷ 0xC0 ∷ 0x05 ∷ 0x66 ∷ []) ∷ full ∷ cell 5 ∷ [], 0x66 ∷ [])
+
 -- RDID ends with its page and stays silent, WRID rolls round within it; address bits above the page do not matter.
 abbrev pub rdid-past-the-page : Line
 rdid-past-the-page = (1, ask (0x83 ∷ 0x7F ∷ []) 3 ∷ [], 0xFF ∷ silence ∷ silence ∷ [])
@@ -243,5 +247,5 @@ readings =
     ∷ power-loses-a-command ∷ turned-away-to-the-end ∷ code-complete-after-the-cycle ∷ wrdi-in-a-cycle ∷ wren-of-two-bytes ∷ wrdi-exactly
     ∷ status-of-the-m95040 ∷ status-of-the-m95m01 ∷ status-of-the-m95m02 ∷ upper-quarter-of-the-m95m01 ∷ upper-quarter-of-the-m95m02
     ∷ identification-of-the-m95m01 ∷ identification-of-the-m95m02 ∷ protect-low-and-wren ∷ protect-low-and-wrsr ∷ protect-low-and-write
-    ∷ unknown-code ∷ rdid-past-the-page ∷ wrid-rolls ∷ wrid-when-locked ∷ write-with-all-protected ∷ wrid-with-all-protected
+    ∷ unknown-code ∷ address-above-the-array ∷ rdid-past-the-page ∷ wrid-rolls ∷ wrid-when-locked ∷ write-with-all-protected ∷ wrid-with-all-protected
     ∷ lid-with-all-protected ∷ marks-cleared-by-write ∷ marks-cleared-by-82h ∷ latch-without-wel ∷ lid-byte-not-latched ∷ []
