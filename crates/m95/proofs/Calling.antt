@@ -9,18 +9,20 @@ use lib.ListN.{length, take, drop, replicate}
 use lib.Dec.{eqb}
 use lib.Pow.{pow-mono}
 use mir.Val.{boolByte}
-use borrow.Author.Tests.{eq-eqb, ne-eqb, le-leb, lt-leb}
+use borrow.Author.Tests.{eq-eqb, ne-eqb, le-leb, lt-leb, lt-ltb, le-ltb}
 use Rattle.rules.specs.declared.Row.{Row}
 use Rattle.rules.specs.declared.Event.{Event}
 use Rattle.rules.specs.declared.State.{State}
-use Rattle.rules.specs.World.{if_then_else_, bit, number, World, worldOf}
+use Rattle.rules.specs.declared.Stored.{Stored}
+use Rattle.rules.specs.World.{if_then_else_, bit, number, World, worldOf, withStored}
 use Rattle.rules.specs.Device.{Widths, isDevice, rowOf, code, preparedState, prepared}
 use Rattle.rules.specs.Instruction.{busy}
 use Rattle.rules.specs.Send.{statusByte}
+use Rattle.rules.specs.Judge.{storable}
 use Rattle.rules.specs.Event.{step, answer, refusal}
 use Rattle.rules.specs.Sound.{isSound, Sound, Lent}
 use Rattle.rules.specs.Trace.{answerByte, Progress, progressOf, run}
-use Rattle.rules.specs.Call.{lentRefusal, worldRefusal, preparedAs, prepareOutcome, repliedAs, eventOutcome, runOutcome, shownAs, cellPageOutcome, identificationPageOutcome}
+use Rattle.rules.specs.Call.{lentRefusal, worldRefusal, preparedAs, prepareOutcome, poweredWith, loadedAs, loadOutcome, repliedAs, eventOutcome, runOutcome, shownAs, cellPageOutcome, identificationPageOutcome}
 use Rattle.rules.proofs.Program.{lent-facts, world-facts}
 use Rattle.rules.proofs.Runs.{Course, course}
 use Rattle.rules.proofs.Widths.{of-device, page-below, start-aligned}
@@ -106,6 +108,39 @@ module _ (device : ℕ) (s : State) (cells identification latch : List ℕ) (n :
       let k = lent-fine device s cells identification latch (sym en ∙ z) in
       let twice : length latch ≡ rowOf device .page * 2 = omega (arith, k .latch) in
       rw (← en, z, es, ec, ei, el, er, k .cells, twice)
+
+-- What is handed in to be loaded.
+module _ (device : ℕ) (x : Stored) (row : Row) (d : Bool) (er : row ≡ rowOf device) (ed : d ≡ isDevice device) (b : ℕ) (eb : b ≡ storable row (x .status)) where
+  pub load-device : not d ≡ true → 1 ≡ loadOutcome device x .number
+  unfolding loadOutcome
+  load-device h = rw (← ed, h)
+
+  module _ (h : not d ≡ false) where
+    pub load-bits : (b ≡ x .status → ⊥) → 5 ≡ loadOutcome device x .number
+    unfolding loadOutcome
+    load-bits a = rw (← ed, h, ← er, ← eb, ne-eqb b (x .status) a)
+
+    module _ (a : b ≡ x .status) where
+      pub load-lock : 1 < x .lock → 5 ≡ loadOutcome device x .number
+      unfolding loadOutcome
+      load-lock l = rw (← ed, h, ← er, ← eb, eq-eqb b (x .status) a, lt-ltb 1 (x .lock) l)
+
+      pub load-whole : x .lock ≤ 1 → 0 ≡ loadOutcome device x .number
+      unfolding loadOutcome
+      load-whole l = rw (← ed, h, ← er, ← eb, eq-eqb b (x .status) a, le-ltb 1 (x .lock) l)
+
+-- Loading.
+module _ (device : ℕ) (x : Stored) (n : ℕ) (en : n ≡ loadOutcome device x .number) (s : State) (es : s ≡ preparedState) where
+  loads : (m : ℕ) → m ≡ loadOutcome device x .number → loadedAs m (if eqb m 0 then poweredWith x else preparedState) ≡ loadOutcome device x
+  unfolding loadOutcome
+  loads m e = ap (λ (k : ℕ). loadedAs k (if eqb k 0 then poweredWith x else preparedState)) e
+
+  pub load-refused : (n ≡ 0 → ⊥) → loadedAs n s ≡ loadOutcome device x
+  load-refused z = let is = loads n en in rw es (rw (ne-eqb n 0 z) at is)
+
+  pub load-done : n ≡ 0
+      → loadedAs 0 (withStored (record { status = x .status; wel = false; locked = eqb (x .lock) 1 }) (s .cycle) (s .place .start) (s .place .left) s) ≡ loadOutcome device x
+  load-done z = rw es (loads 0 (sym z ∙ en))
 
 -- An event.
 module _ (device : ℕ) (w : World) (e : Event) (n : ℕ) (en : n ≡ worldRefusal device w) where

@@ -1,14 +1,15 @@
--- Any two outcomes that a public call's contract allows are equal: `unique-prepare`, `unique-event`, `unique-run`, `unique-cell-page`, `unique-identification-page`, `unique-status-byte`, `unique-prepared-state`, `unique-world-refused`.
+-- Any two outcomes that a public call's contract allows are equal: `unique-prepare`, `unique-load`, `unique-stored`, `unique-event`, `unique-run`, `unique-cell-page`, `unique-identification-page`, `unique-status-byte`, `unique-prepared-state`, `unique-world-refused`.
 use Prim.Native.Nat.{ℕ}
 use mathlib.Core.Path.{_≡_, sym, _∙_}
 use mathlib.Core.List.{List}
 use Rattle.rules.specs.declared.Event.{Event}
 use Rattle.rules.specs.declared.State.{State}
+use Rattle.rules.specs.declared.Stored.{Stored}
 use Rattle.rules.specs.World.{World}
 use Rattle.rules.specs.Device.{preparedState}
 use Rattle.rules.specs.Send.{statusByte}
 use Rattle.rules.specs.Trace.{Progress}
-use Rattle.rules.specs.Call.{worldRefusal, Prepared, prepareOutcome, Replied, eventOutcome, runOutcome, Shown, cellPageOutcome, identificationPageOutcome}
+use Rattle.rules.specs.Call.{worldRefusal, Prepared, prepareOutcome, storedIn, Loaded, loadOutcome, Replied, eventOutcome, runOutcome, Shown, cellPageOutcome, identificationPageOutcome}
 
 -- What a contract of the form "the outcome is this function of the input" allows is one outcome.
 pub unique : {A : Type 0} {x y z : A} → x ≡ z → y ≡ z → x ≡ y
@@ -16,6 +17,12 @@ unique e f = e ∙ sym f
 
 pub unique-prepare : {x y : Prepared} (device : ℕ) (cells identification latch : List ℕ) → x ≡ prepareOutcome device cells identification latch → y ≡ prepareOutcome device cells identification latch → x ≡ y
 unique-prepare device cells identification latch = unique
+
+pub unique-load : {x y : Loaded} (device : ℕ) (stored : Stored) → x ≡ loadOutcome device stored → y ≡ loadOutcome device stored → x ≡ y
+unique-load device stored = unique
+
+pub unique-stored : {x y : Stored} (s : State) → x ≡ storedIn s → y ≡ storedIn s → x ≡ y
+unique-stored s e f = unique e f
 
 pub unique-event : {x y : Replied} (device : ℕ) (w : World) (e : Event) → x ≡ eventOutcome device w e → y ≡ eventOutcome device w e → x ≡ y
 unique-event device w e = unique

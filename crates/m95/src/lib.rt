@@ -1,4 +1,4 @@
-// The library: prepare, event, run, and the two pages. Each call takes any input whatever, and its contract says its whole answer
+// The library: prepare, load, event, run, what is stored, and the two pages. Each call takes any input whatever, and its contract says its whole answer
 // and the whole contents of every lent buffer as one function of the input: the outcomes of rules/specs/Call.antt.
 
 ghost use mathlib.Core.Path.{_≡_};
@@ -6,7 +6,7 @@ ghost use Rattle.rules.specs.World.{if_then_else_, worldOf};
 ghost use Rattle.rules.specs.Device.{preparedState};
 ghost use Rattle.rules.specs.Send.{statusByte};
 ghost use Rattle.rules.specs.Trace.{progressOf};
-ghost use Rattle.rules.specs.Call.{lentRefusal, worldRefusal, preparedAs, prepareOutcome, repliedAs, eventOutcome, runOutcome, shownAs, cellPageOutcome, identificationPageOutcome};
+ghost use Rattle.rules.specs.Call.{lentRefusal, worldRefusal, preparedAs, prepareOutcome, storedIn, loadedAs, loadOutcome, repliedAs, eventOutcome, runOutcome, shownAs, cellPageOutcome, identificationPageOutcome};
 use rules::Command;
 use rules::Cycle;
 use rules::Event;
@@ -21,9 +21,10 @@ use rules::Place;
 use rules::Registers;
 use rules::Selection;
 use rules::State;
+use rules::Stored;
 use traces::records::Ran;
 
-// What preparing gives back: its number, and the prepared state.
+// What preparing and loading give back: the number, and the state.
 pub struct Prepared {
     pub number: usize,
     pub state: State,
@@ -167,6 +168,59 @@ pub fn prepare(
     Prepared {
         number: 0,
         state: state,
+    }
+}
+
+// 1 where there is no such device, 5 where it has not these bits, or no lock is so. 0 otherwise.
+fn stored_refused(device: u8, stored: Stored) -> usize
+    ensures { λ r. ⌜ r ≡ loadOutcome device stored .number ⌝ }
+{
+    let row = tables::row_of(device);
+    let bits = bits::stored(row, stored.status);
+    if !tables::is_device(device) {
+        return 1;
+    }
+    if bits != stored.status {
+        return 5;
+    }
+    if 1 < stored.lock {
+        return 5;
+    }
+    0
+}
+
+// The state of a device that has just got its power, with what it has stored. Its cells and its identification page are the caller's.
+pub fn load(device: u8, stored: Stored) -> Prepared
+    ensures { λ r. ⌜ loadedAs (r .number) (r .state) ≡ loadOutcome device stored ⌝ }
+{
+    let number = stored_refused(device, stored);
+    let mut state = prepared_state();
+    if number != 0 {
+        return Prepared {
+            number: number,
+            state: state,
+        };
+    }
+    let registers = Registers {
+        status: stored.status,
+        wel: false,
+        locked: stored.lock == 1,
+    };
+    state.registers = registers;
+    Prepared {
+        number: 0,
+        state: state,
+    }
+}
+
+// What a state has stored besides cells and identification page, sound or not.
+pub fn stored(s: State) -> Stored
+    ensures { λ r. ⌜ r ≡ storedIn s ⌝ }
+{
+    let registers = s.registers;
+    Stored {
+        status: registers.status,
+        lock: registers.locked as u8,
     }
 }
 

@@ -10,6 +10,7 @@ pub mod Encoded
 pub mod Incident
 pub mod Inside
 pub mod Latch
+pub mod Loaded
 pub mod Lookalike
 pub mod Pieces
 pub mod Preserved
@@ -20,5 +21,5 @@ pub mod Runs
 pub mod Same
 pub mod Selections
 pub mod Soundness
-pub mod Stored
+pub mod Storing
 pub mod Widths

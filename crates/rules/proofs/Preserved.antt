@@ -18,7 +18,7 @@ use Rattle.rules.specs.Event.{pinsAfter, deselected, powered, decodes, r
 use Rattle.rules.specs.Sound.{SoundInput, SoundCycle, Unsettled, Sound, Lent, Preserved}
 use Rattle.rules.proofs.Choice.{if-elim, if-within, clash, and-right, and-rest, or-left}
 use Rattle.rules.proofs.Widths.{page-below}
-use Rattle.rules.proofs.Stored.{begun-sound, written-long, left-sound}
+use Rattle.rules.proofs.Storing.{begun-sound, written-long, left-sound}
 use Rattle.rules.proofs.Received.{input-sound, address-inside, shown-inside, command-turned, latch-long, latch-marks}
 
 -- The world after an event but for the hold rule.

@@ -28,6 +28,46 @@ prepare-latch : spec.Gives spec.prepare-latch
 unfolding calls
 prepare-latch = refl
 
+load-all-bits : spec.Gives spec.load-all-bits
+unfolding calls
+load-all-bits = refl
+
+load-nothing : spec.Gives spec.load-nothing
+unfolding calls
+load-nothing = refl
+
+load-no-device : spec.Gives spec.load-no-device
+unfolding calls
+load-no-device = refl
+
+load-no-srwd : spec.Gives spec.load-no-srwd
+unfolding calls
+load-no-srwd = refl
+
+load-wel : spec.Gives spec.load-wel
+unfolding calls
+load-wel = refl
+
+load-above-a-byte : spec.Gives spec.load-above-a-byte
+unfolding calls
+load-above-a-byte = refl
+
+load-lock : spec.Gives spec.load-lock
+unfolding calls
+load-lock = refl
+
+stored-in-a-status-cycle : spec.Gives spec.stored-in-a-status-cycle
+unfolding calls
+stored-in-a-status-cycle = refl
+
+stored-in-a-lock-cycle : spec.Gives spec.stored-in-a-lock-cycle
+unfolding calls
+stored-in-a-lock-cycle = refl
+
+stored-lock : spec.Gives spec.stored-lock
+unfolding calls
+stored-lock = refl
+
 event-taken : spec.Gives spec.event-taken
 unfolding calls
 event-taken = refl
@@ -222,7 +262,9 @@ first-device-zero = refl
 
 pub refusals : spec.Given spec.refusals
 refusals =
-    prepare-taken and prepare-device-five and prepare-device-zero and prepare-cells and prepare-identification and prepare-latch and event-taken
+    prepare-taken and prepare-device-five and prepare-device-zero and prepare-cells and prepare-identification and prepare-latch and load-all-bits
+    and load-nothing and load-no-device and load-no-srwd and load-wel and load-above-a-byte and load-lock and stored-in-a-status-cycle
+    and stored-in-a-lock-cycle and stored-lock and event-taken
     and event-device and event-cells and event-identification and event-latch and event-mark and event-power-in-a-cycle and run-to-its-end
     and run-to-its-limit and run-data-select-protect and run-clock-hold and run-wait and run-wait-third-byte and run-wait-fourth-byte
     and run-answers-low and run-answers-high and run-device and run-cells and run-identification and run-latch and run-mark

@@ -1,8 +1,9 @@
 -- 01, "Numbers given back": the whole outcome of each public call, for every input. Refusals are read from top to bottom.
-use Rattle.rules.specs.World.{ℕ, _+_, _&&_, ltb, getD, _-_, _%_, not, List, [], take, drop, length, eqb, leb, if_then_else_, Event, World}
+use Rattle.rules.specs.World.{ℕ, _+_, false, _&&_, ltb, getD, _-_, _%_, not, List, [], take, drop, length, eqb, leb, if_then_else_, number, Event, Stored, State, World, withStored}
 use Rattle.rules.specs.Device.{isDevice, rowOf, preparedState, prepared}
+use Rattle.rules.specs.Judge.{storable}
 use Rattle.rules.specs.Sound.{isSound}
-use Rattle.rules.specs.Event.{step, answer, refusal}
+use Rattle.rules.specs.Event.{powered, step, answer, refusal}
 use Rattle.rules.specs.Trace.{two, answerByte, Progress, run}
 
 -- 1 to 4: no such device; cells, identification page or latch of a wrong length.
@@ -35,6 +36,33 @@ prepareOutcome device cells identification latch =
     let lent : World = record { state = preparedState; cells = cells; identification = identification; latch = latch } in
     let n = lentRefusal device cells identification latch in
     record { number = n; world = if eqb n 0 then prepared (rowOf device) else lent }
+
+-- What a state has stored besides cells and identification page, and the state of a chip that has this stored and has just got its power.
+abbrev pub storedAs : ℕ → ℕ → Stored
+storedAs status lock = record { status = status; lock = lock }
+
+abbrev pub storedIn : State → Stored
+storedIn s = storedAs (s .registers .status) (number (s .registers .locked))
+
+abbrev pub poweredWith : Stored → State
+poweredWith x = powered (withStored (record { status = x .status; wel = false; locked = eqb (x .lock) 1 }) (preparedState .cycle) 0 0 preparedState)
+
+-- Loading: 1, then 5 for bits that the device has not and for a lock that is neither 0 nor 1. Refused, it gives the prepared state.
+pub record Loaded : Type 0 where
+  pub number : ℕ
+  pub state : State
+
+abbrev pub loadedAs : ℕ → State → Loaded
+loadedAs number s = record { number = number; state = s }
+
+unfoldable pub loadOutcome : ℕ → Stored → Loaded
+loadOutcome device x =
+    let n : ℕ =
+    if not (isDevice device) then 1
+    else if not (eqb (storable (rowOf device) (x .status)) (x .status)) then 5
+    else if ltb 1 (x .lock) then 5
+    else 0 in
+    loadedAs n (if eqb n 0 then poweredWith x else preparedState)
 
 -- A single event: 1 to 5, then 11. A refused event answers 2 and changes nothing.
 pub record Replied : Type 0 where

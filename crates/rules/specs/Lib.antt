@@ -15,5 +15,6 @@ pub mod Examples
 pub mod Readings
 pub mod Selections
 pub mod Recorded
+pub mod Loaded
 pub mod Refusals
 pub mod Unsound

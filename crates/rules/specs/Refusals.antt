@@ -1,15 +1,17 @@
 -- 01, "Numbers given back", by example: for each call each number that it can give, with the whole outcome beside it (the answer, the
 -- counts, the state and every lent buffer), and where two faults stand together the earlier number. `Unsound` has what gives 5.
-use Rattle.rules.specs.World.{ℕ, _≡_, true, false, List, [], _∷_, _++_, replicate, Instruction, Kind, Level, Event, State, World, worldOf, Each}
+use Rattle.rules.specs.World.{ℕ, _≡_, Bool, true, false, List, [], _∷_, _++_, replicate, Instruction, Kind, Level, Event, Stored, State, World, worldOf, Each}
 use Rattle.rules.specs.World.{withPins, withSelection, withStored, withState, withLatch}
 use Rattle.rules.specs.Device.{preparedState}
 use Rattle.rules.specs.Trace.{Progress, progressOf}
-use Rattle.rules.specs.Call.{Prepared, preparedAs, prepareOutcome, Replied, repliedAs, eventOutcome, runOutcome}
+use Rattle.rules.specs.Call.{Prepared, preparedAs, prepareOutcome, storedAs, storedIn, Loaded, loadedAs, loadOutcome, Replied, repliedAs, eventOutcome, runOutcome}
 use Rattle.rules.specs.Call.{Shown, shownAs, cellPageOutcome, identificationPageOutcome, First, firstAs, firstRecord}
 
 -- A line: a call, and its whole outcome.
 pub data Line : Type 0 where
   prepare : ℕ → List ℕ → List ℕ → List ℕ → Prepared → Line
+  load : ℕ → Stored → Loaded → Line
+  stored : State → Stored → Line
   event : ℕ → World → Event → Replied → Line
   run : ℕ → World → List ℕ → List ℕ → ℕ → Progress → Line
   cellPage : ℕ → List ℕ → ℕ → Shown → Line
@@ -18,6 +20,8 @@ pub data Line : Type 0 where
 
 abbrev pub Gives : Line → Type 0
 Gives (prepare device cells identification latch r) = prepareOutcome device cells identification latch ≡ r
+Gives (load device x r) = loadOutcome device x ≡ r
+Gives (stored s r) = storedIn s ≡ r
 Gives (event device w e r) = eventOutcome device w e ≡ r
 Gives (run device w trace answers limit r) = runOutcome device w trace answers limit ≡ r
 Gives (cellPage device cells address r) = cellPageOutcome device cells address ≡ r
@@ -46,6 +50,44 @@ prepare-identification = prepare 1 (replicate 512 7) (8 ∷ []) (9 ∷ []) (prep
 
 abbrev pub prepare-latch : Line
 prepare-latch = prepare 1 (replicate 512 7) (replicate 16 8) (replicate 16 9) (preparedAs 4 (lent (replicate 512 7) (replicate 16 8) (replicate 16 9)))
+
+-- Loading: every bit that the device has is taken, and every other is refused, above a byte too; a lock is 0 or 1. 1 comes before 5.
+abbrev withRegisters : ℕ → Bool → Bool → State
+withRegisters status wel locked = withStored (record { status = status; wel = wel; locked = locked }) (preparedState .cycle) 0 0 preparedState
+
+abbrev pub load-all-bits : Line
+load-all-bits = load 2 (storedAs 0x8C 1) (loadedAs 0 (withRegisters 0x8C false true))
+
+abbrev pub load-nothing : Line
+load-nothing = load 4 (storedAs 0 0) (loadedAs 0 preparedState)
+
+abbrev pub load-no-device : Line
+load-no-device = load 5 (storedAs 0xFF 2) (loadedAs 1 preparedState)
+
+abbrev pub load-no-srwd : Line
+load-no-srwd = load 1 (storedAs 0x8C 1) (loadedAs 5 preparedState)
+
+abbrev pub load-wel : Line
+load-wel = load 3 (storedAs 0x02 0) (loadedAs 5 preparedState)
+
+abbrev pub load-above-a-byte : Line
+load-above-a-byte = load 3 (storedAs 0x104 0) (loadedAs 5 preparedState)
+
+abbrev pub load-lock : Line
+load-lock = load 1 (storedAs 0x0C 2) (loadedAs 5 preparedState)
+
+-- What a state has stored: in a cycle that will change it still the old, and WEL is none of it.
+abbrev changing : Kind → State
+changing k = withStored (record { status = 0x84; wel = true; locked = false }) (record { kind = k; next = 0x08 }) 0 1 preparedState
+
+abbrev pub stored-in-a-status-cycle : Line
+stored-in-a-status-cycle = stored (changing Kind.Status) (storedAs 0x84 0)
+
+abbrev pub stored-in-a-lock-cycle : Line
+stored-in-a-lock-cycle = stored (changing Kind.Lock) (storedAs 0x84 0)
+
+abbrev pub stored-lock : Line
+stored-lock = stored (withRegisters 0 true true) (storedAs 0 1)
 
 -- A prepared M95040 with bytes of its own, and what can be wrong with it: each fault with all that are judged after it, down to a state that
 -- is held and not selected.
@@ -276,7 +318,9 @@ first-device-zero = first (3 ∷ 0 ∷ 16 ∷ 0 ∷ 0 ∷ []) (firstAs 1 0)
 
 abbrev pub refusals : List Line
 refusals =
-    prepare-taken ∷ prepare-device-five ∷ prepare-device-zero ∷ prepare-cells ∷ prepare-identification ∷ prepare-latch ∷ event-taken
+    prepare-taken ∷ prepare-device-five ∷ prepare-device-zero ∷ prepare-cells ∷ prepare-identification ∷ prepare-latch ∷ load-all-bits
+    ∷ load-nothing ∷ load-no-device ∷ load-no-srwd ∷ load-wel ∷ load-above-a-byte ∷ load-lock ∷ stored-in-a-status-cycle
+    ∷ stored-in-a-lock-cycle ∷ stored-lock ∷ event-taken
     ∷ event-device ∷ event-cells ∷ event-identification ∷ event-latch ∷ event-mark ∷ event-power-in-a-cycle ∷ run-to-its-end ∷ run-to-its-limit
     ∷ run-data-select-protect ∷ run-clock-hold ∷ run-wait ∷ run-wait-third-byte ∷ run-wait-fourth-byte ∷ run-answers-low ∷ run-answers-high
     ∷ run-device ∷ run-cells ∷ run-identification ∷ run-latch ∷ run-mark ∷ run-no-four-bytes ∷ run-unknown-kind ∷ run-kind-of-two-bytes

@@ -20,6 +20,7 @@ pub use Rattle.rules.specs.declared.Input.{Input}
 pub use Rattle.rules.specs.declared.Command.{Command}
 pub use Rattle.rules.specs.declared.Output.{Output}
 pub use Rattle.rules.specs.declared.Registers.{Registers}
+pub use Rattle.rules.specs.declared.Stored.{Stored}
 pub use Rattle.rules.specs.declared.Cycle.{Cycle}
 pub use Rattle.rules.specs.declared.State.{State}
 

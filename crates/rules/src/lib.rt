@@ -141,6 +141,12 @@ pub struct Registers {
     pub locked: bool,
 }
 
+// What a chip has stored besides its cells and its identification page: the status bits, and 1 where the page is locked.
+pub struct Stored {
+    pub status: u8,
+    pub lock: u8,
+}
+
 // The running cycle, and its new status bits.
 pub struct Cycle {
     pub kind: Kind,
