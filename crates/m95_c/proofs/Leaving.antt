@@ -10,17 +10,18 @@ use borrow.Author.Tests.{ltb-false, eq-eqb, ne-eqb, le-leb, lt-leb, not-true, no
 use Rattle.rules.specs.declared.Event.{Event}
 use Rattle.rules.specs.declared.Row.{Row}
 use Rattle.rules.specs.declared.State.{State}
+use Rattle.rules.specs.declared.Stored.{Stored}
 use Rattle.rules.specs.World.{World, worldOf}
 use Rattle.rules.specs.Device.{isDevice, rowOf}
 use Rattle.rules.specs.Send.{statusByte}
 use Rattle.rules.specs.Trace.{lengthOf, pinEvent, progressOf}
 use Rattle.rules.specs.Call as call
-use Rattle.rules.specs.Call.{worldRefusal, prepareOutcome, eventOutcome, runOutcome, shownAs, cellPageOutcome, identificationPageOutcome}
+use Rattle.rules.specs.Call.{worldRefusal, prepareOutcome, storedAs, storedIn, loadOutcome, eventOutcome, runOutcome, shownAs, cellPageOutcome, identificationPageOutcome}
 use Rattle.rules.proofs.Choice.{if-elim}
 use Rattle.m95.proofs.Calling.{fine}
 use Rattle.m95_c.proofs.Packing.{state-length}
-use Rattle.m95_c.specs.StateBytes.{isState, stateOf, noState, bytesOf}
-use Rattle.m95_c.specs.Left.{deviceOf, sizesAs, sizesOf, Buffers, buffersOf, preparedAs, prepareLeft, eventRefusal, eventOf, repliedAs, eventLeft, ranAs, runLeft, toldAs, statusLeft, placedAs, cellPageLeft, identificationPageLeft}
+use Rattle.m95_c.specs.StateBytes.{isState, stateOf, noState, bytesOf, putIn}
+use Rattle.m95_c.specs.Left.{deviceOf, sizesAs, sizesOf, Buffers, buffersOf, preparedAs, prepareLeft, byteFor, loadedAs, loadLeft, eventRefusal, eventOf, repliedAs, eventLeft, ranAs, runLeft, toldAs, statusLeft, keptAs, storedLeft, placedAs, cellPageLeft, identificationPageLeft}
 
 pub device-small : (n : ℕ) → n ≤ 255 → n ≡ deviceOf n
 device-small n h = rw (le-leb n 255 h)
@@ -36,6 +37,19 @@ module _ (n d : ℕ) (ed : d ≡ deviceOf n) (row : Row) (er : row ≡ rowOf d) 
   pub sizes-none : t ≡ false → sizesAs 0 0 ≡ sizesOf n
   sizes-none h = rw (← ed, ← et, h)
 
+-- A state put into a room.
+pub put-there : (s : State) (room b : List ℕ) → length room ≡ 36 → b ≡ putIn room s → b ≡ bytesOf s
+unfolding putIn
+put-there s room b h e = e ∙ rw (eq-eqb (length room) 36 h)
+
+pub put-whole : (s : State) (room b : List ℕ) → length room ≡ 36 → b ≡ bytesOf s → b ≡ putIn room s
+unfolding putIn
+put-whole s room b h e = e ∙ rw (eq-eqb (length room) 36 h)
+
+pub put-nowhere : (s : State) (room : List ℕ) → (length room ≡ 36 → ⊥) → room ≡ putIn room s
+unfolding putIn
+put-nowhere s room h = rw (ne-eqb (length room) 36 h)
+
 -- Preparing.
 module _ (n d : ℕ) (ed : d ≡ deviceOf n) (b : Buffers) where
   pub prepare-roomless : (s : State) (m : ℕ) → (length (b .state) ≡ 36 → ⊥) → s ≡ noState → m ≡ worldRefusal d (worldOf s (b .cells) (b .identification) (b .latch)) → preparedAs m b ≡ prepareLeft n b
@@ -45,6 +59,28 @@ module _ (n d : ℕ) (ed : d ≡ deviceOf n) (b : Buffers) where
   pub prepare-room : (s : State) (m : ℕ) (bytes c i l : List ℕ) → length (b .state) ≡ 36 → call.preparedAs m (worldOf s c i l) ≡ prepareOutcome d (b .cells) (b .identification) (b .latch) → bytes ≡ bytesOf s → preparedAs m (buffersOf bytes c i l) ≡ prepareLeft n b
   unfolding prepareLeft
   prepare-room s m bytes c i l h eo es = rw (eq-eqb (length (b .state)) 36 h, ← ed, ← eo, es)
+
+-- Loading.
+pub byte-small : (n : ℕ) → n ≤ 255 → n ≡ byteFor n
+byte-small n h = rw (le-leb n 255 h)
+
+pub byte-large : (n : ℕ) → 255 < n → 255 ≡ byteFor n
+byte-large n h = rw (lt-leb n 255 h)
+
+module _ (n d status lock p q : ℕ) (ed : d ≡ deviceOf n) (ep : p ≡ byteFor status) (eq : q ≡ byteFor lock) (room : List ℕ) (m : ℕ) (s : State)
+    (eo : call.loadedAs m s ≡ loadOutcome d (storedAs p q)) where
+  pub load-refused : (m ≡ 0 → ⊥) → loadedAs m room ≡ loadLeft n room status lock
+  unfolding loadLeft
+  load-refused h = rw (← ed, ← ep, ← eq, ← eo, ne-eqb m 0 h)
+
+  module _ (z : m ≡ 0) where
+    pub load-roomless : (length room ≡ 36 → ⊥) → loadedAs 5 room ≡ loadLeft n room status lock
+    unfolding loadLeft
+    load-roomless h = rw (← ed, ← ep, ← eq, ← eo, z, ne-eqb (length room) 36 h)
+
+    pub load-room : length room ≡ 36 → (b : List ℕ) → b ≡ putIn room s → loadedAs 0 b ≡ loadLeft n room status lock
+    unfolding loadLeft
+    load-room h b eb = rw (← ed, ← ep, ← eq, ← eo, z, eq-eqb (length room) 36 h, put-there s room b h eb)
 
 -- An event by its kind and its number.
 module _ (kind value : ℕ) where
@@ -129,6 +165,16 @@ module _ (b : List ℕ) (t : Bool) (et : t ≡ isState b) where
   pub status-told : (s : State) (n : ℕ) → not t ≡ false → s ≡ stateOf b → n ≡ statusByte s → toldAs 0 n ≡ statusLeft b
   unfolding statusLeft stateOf
   status-told s n h es en = rw (← et, not-false t h, en, es, ← et, not-false t h)
+
+-- What is stored.
+module _ (b : List ℕ) (t : Bool) (et : t ≡ isState b) where
+  pub stored-none : not t ≡ true → keptAs 5 0 0 ≡ storedLeft b
+  unfolding storedLeft
+  stored-none h = rw (← et, not-true t h)
+
+  pub stored-told : (s : State) (x : Stored) → not t ≡ false → s ≡ stateOf b → x ≡ storedIn s → keptAs 0 (x .status) (x .lock) ≡ storedLeft b
+  unfolding storedLeft stateOf
+  stored-told s x h es ex = rw (← et, not-false t h, ex, es, ← et, not-false t h)
 
 -- The pages.
 module _ (n d : ℕ) (ed : d ≡ deviceOf n) (m : ℕ) (part : List ℕ) where

@@ -3,7 +3,8 @@ use Prim.Native.Nat.{ℕ}
 use mathlib.Core.Path.{_≡_}
 use mathlib.Core.List.{List}
 use Rattle.m95.proofs.Unique.{unique}
-use Rattle.m95_c.specs.Left.{sizesOf, Buffers, buffersRefusal, Prepared, prepareLeft, Replied, eventLeft, Ran, runLeft, Told, statusLeft, Placed, cellPageLeft, identificationPageLeft}
+use Rattle.m95_c.specs.StateBytes.{version}
+use Rattle.m95_c.specs.Left.{sizesOf, Buffers, buffersRefusal, Prepared, prepareLeft, Loaded, loadLeft, Kept, storedLeft, Replied, eventLeft, Ran, runLeft, Told, statusLeft, Placed, cellPageLeft, identificationPageLeft}
 
 pub unique-cells : {x y : ℕ} (device : ℕ) → x ≡ sizesOf device .cells → y ≡ sizesOf device .cells → x ≡ y
 unique-cells device e f = unique e f
@@ -31,3 +32,12 @@ unique-cell-page device cells address = unique
 
 pub unique-identification-page : {x y : Placed} (device : ℕ) (identification : List ℕ) → x ≡ identificationPageLeft device identification → y ≡ identificationPageLeft device identification → x ≡ y
 unique-identification-page device identification = unique
+
+pub unique-version : {x y : ℕ} → x ≡ version → y ≡ version → x ≡ y
+unique-version e f = unique e f
+
+pub unique-load : {x y : Loaded} (device : ℕ) (state : List ℕ) (status lock : ℕ) → x ≡ loadLeft device state status lock → y ≡ loadLeft device state status lock → x ≡ y
+unique-load device state status lock = unique
+
+pub unique-stored : {x y : Kept} (state : List ℕ) → x ≡ storedLeft state → y ≡ storedLeft state → x ≡ y
+unique-stored state = unique

@@ -1,10 +1,11 @@
 -- What each call for C leaves: its number and everything lent to it, as one function of what it was given.
 use Rattle.rules.specs.World.{ℕ, _-_, _%_, not, _&&_, List, length, eqb, leb, ltb, min, if_then_else_, World, worldOf}
 use Rattle.rules.specs.declared.Event.{Event}
+use Rattle.rules.specs.declared.Stored.{Stored}
 use Rattle.rules.specs.Device.{isDevice, rowOf}
 use Rattle.rules.specs.Send.{statusByte}
 use Rattle.rules.specs.Trace.{lengthOf, pinEvent}
-use Rattle.rules.specs.Call.{worldRefusal, prepareOutcome, eventOutcome, runOutcome, cellPageOutcome, identificationPageOutcome}
+use Rattle.rules.specs.Call.{worldRefusal, prepareOutcome, storedAs, storedIn, loadOutcome, eventOutcome, runOutcome, cellPageOutcome, identificationPageOutcome}
 use Rattle.m95_c.specs.declared.Sizes.{Sizes}
 use Rattle.m95_c.specs.StateBytes.{stateLength, isState, stateOf, stateAt, noState, bytesOf}
 
@@ -53,6 +54,24 @@ prepareLeft device b =
     let none = worldOf noState (b .cells) (b .identification) (b .latch) in
     if eqb (length (b .state)) stateLength then preparedAs (o .number) (buffersWith (o .world))
     else preparedAs (worldRefusal (deviceOf device) none) b
+
+-- Loading: 1, then 5 for what is handed in or for a room of a wrong length. Refused it leaves the room. A number above a byte's counts as 255: no device has these bits, and no lock is so.
+abbrev pub byteFor : ℕ → ℕ
+byteFor n = if leb n 255 then n else 255
+
+pub record Loaded : Type 0 where
+  pub number : ℕ
+  pub state : List ℕ
+
+abbrev pub loadedAs : ℕ → List ℕ → Loaded
+loadedAs number state = record { number = number; state = state }
+
+unfoldable pub loadLeft : ℕ → List ℕ → ℕ → ℕ → Loaded
+loadLeft device state status lock =
+    let o = loadOutcome (deviceOf device) (storedAs (byteFor status) (byteFor lock)) in
+    if not (eqb (o .number) 0) then loadedAs (o .number) state
+    else if eqb (length state) stateLength then loadedAs 0 (bytesOf (o .state))
+    else loadedAs 5 state
 
 -- An event by the kind of its record and the number in it: 7 for a kind that is none, 9 for a pin byte above 9. No cycle lasts as long as the longest wait of a record, and a longer one counts as that.
 unfoldable pub eventRefusal : ℕ → ℕ → ℕ
@@ -111,6 +130,17 @@ toldAs number status = record { number = number; status = status }
 
 unfoldable pub statusLeft : List ℕ → Told
 statusLeft b = if isState b then toldAs 0 (statusByte (stateAt b)) else toldAs 5 0
+
+-- What a state has stored, sound or not: 5 and nothing for bytes that are none.
+pub record Kept : Type 0 where
+  pub number : ℕ
+  pub stored : Stored
+
+abbrev pub keptAs : ℕ → ℕ → ℕ → Kept
+keptAs number status lock = record { number = number; stored = storedAs status lock }
+
+unfoldable pub storedLeft : List ℕ → Kept
+storedLeft b = let x = storedIn (stateAt b) in if isState b then keptAs 0 (x .status) (x .lock) else keptAs 5 0 0
 
 -- A page by where it starts and how long it is; both 0 where it is refused.
 pub record Placed : Type 0 where

@@ -1,4 +1,4 @@
--- The state as bytes, for callers who have no State: 36 of them.
+-- The state as bytes, for callers who have no State: 36 of them. The version is raised whenever one of them changes its meaning.
 -- From 0: the address, the cycle's page start and its time left, four bytes each, the least significant first.
 -- From 12: eleven flags of 0 or 1, for C, D, S, HOLD, W, selected, held, W seen low, turned away, WEL and the lock.
 -- From 23: the instruction, the level of Q and the cycle, each by its place in its list.
@@ -20,6 +20,9 @@ use Rattle.rules.specs.declared.State.{State}
 use Rattle.rules.specs.Device.{preparedState}
 use Rattle.rules.specs.Sound.{areMarks}
 use Rattle.rules.specs.Trace.{four, answerByte}
+
+abbrev pub version : ℕ
+version = 1
 
 abbrev pub instructions : List Instruction
 instructions = Instruction.Wren ∷ Instruction.Wrdi ∷ Instruction.Rdsr ∷ Instruction.Wrsr ∷ Instruction.Read ∷ Instruction.Write ∷ Instruction.Rdid ∷ Instruction.Rdls ∷ Instruction.Wrid ∷ Instruction.Lid ∷ Instruction.Unknown ∷ []
@@ -122,3 +125,7 @@ otherBytes s =
 
 unfoldable pub bytesOf : State → List ℕ
 bytesOf s = numberBytes (s .place) ++ flagBytes s ++ otherBytes s
+
+-- A room with a state put into it: one of another length stays as it is.
+unfoldable pub putIn : List ℕ → State → List ℕ
+putIn room s = if eqb (length room) stateLength then bytesOf s else room

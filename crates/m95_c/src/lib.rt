@@ -3,15 +3,25 @@
 
 ghost use mathlib.Core.Path.{_≡_};
 ghost use Prim.Native.Nat.{min};
-ghost use Rattle.m95_c.specs.Left.{deviceOf, sizesOf, buffersOf, buffersRefusal, preparedAs, prepareLeft, eventRefusal, eventOf, repliedAs, eventLeft, ranAs, runLeft, toldAs, statusLeft, placedAs, cellPageLeft, identificationPageLeft};
+ghost use Rattle.m95_c.specs.StateBytes.{version};
+ghost use Rattle.m95_c.specs.Left.{deviceOf, sizesOf, buffersOf, buffersRefusal, preparedAs, prepareLeft, byteFor, loadedAs, loadLeft, eventRefusal, eventOf, repliedAs, eventLeft, ranAs, runLeft, toldAs, statusLeft, keptAs, storedLeft, placedAs, cellPageLeft, identificationPageLeft};
 use putting::put_state;
 use reading::is_state;
 use reading::no_state;
 use reading::state_of;
 use rules::Event;
+use rules::Stored;
 
 pub mod putting;
 pub mod reading;
+
+// Which bytes a state is: another number where one of them means something else.
+#[no_mangle]
+pub extern "C" fn m95_version() -> usize
+    ensures { λ r. ⌜ r ≡ version ⌝ }
+{
+    1
+}
 
 // A number above a byte's is no device's, as 0 is.
 fn device_of(number: usize) -> u8
@@ -98,6 +108,36 @@ pub extern "C" fn m95_prepare(
     let prepared = m95::prepare(number, cells, identification, latch);
     put_state(state, prepared.state);
     prepared.number
+}
+
+// A number as a byte; one above a byte's is neither stored bits nor a lock, as 255 is not.
+fn byte_for(number: usize) -> u8
+    ensures { λ r. ⌜ r ≡ byteFor number ⌝ }
+{
+    if number <= 255 {
+        return number as u8;
+    }
+    255
+}
+
+// Puts the state of a device that has just got its power, with what it has stored.
+#[no_mangle]
+pub extern "C" fn m95_load(device: usize, state: &mut [u8], status: usize, lock: usize) -> usize
+    ensures { λ r. ⌜ loadedAs r (now (state .exit)) ≡ loadLeft device (now (state .entry)) status lock ⌝ }
+{
+    let stored = Stored {
+        status: byte_for(status),
+        lock: byte_for(lock),
+    };
+    let loaded = m95::load(device_of(device), stored);
+    if loaded.number != 0 {
+        return loaded.number;
+    }
+    if state.len() != 36 {
+        return 5;
+    }
+    put_state(state, loaded.state);
+    0
 }
 
 // 7 for a kind that is none, 9 for a pin byte above 9, or 0.
@@ -210,6 +250,22 @@ pub extern "C" fn m95_status_byte(state: &[u8], status: &mut usize) -> usize
         return 5;
     }
     *status = m95::status_byte(state_of(state));
+    0
+}
+
+// What a state has stored besides cells and identification page, sound or not.
+#[no_mangle]
+pub extern "C" fn m95_stored(state: &[u8], status: &mut usize, lock: &mut usize) -> usize
+    ensures { λ r. ⌜ keptAs r (now (status .exit)) (now (lock .exit)) ≡ storedLeft (now (state .entry)) ⌝ }
+{
+    if !is_state(state) {
+        *status = 0;
+        *lock = 0;
+        return 5;
+    }
+    let stored = m95::stored(state_of(state));
+    *status = stored.status as usize;
+    *lock = stored.lock as usize;
     0
 }
 

@@ -1,6 +1,6 @@
 -- `m95_c::m95_prepare` meets its contract.
 use Rattle.m95_c.specs.Left.{buffersOf}
-use Rattle.m95_c.proofs.Leaving.{prepare-roomless, prepare-room}
+use Rattle.m95_c.proofs.Leaving.{put-there, prepare-roomless, prepare-room}
 use borrow.Author.Needs.{needs}
 use Rattle.m95_c.proofs.m95_prepare.Statement.{statement}
 use Rattle.m95_c.proofs.m95_prepare.Tie as tie
@@ -45,7 +45,15 @@ same-length-7 : tie.Need-same-length-7
 same-length-7 c = search needs
 
 returns-2 : tie.Need-returns-2
-returns-2 c = prepare-room (c .before .before .before .before .before .before .before .before .before .before .before .before .before .before .before .before .before .before .before .before .args .device) (c .before .before .before .before .before .before .before .before .before .before .before .before .before .before .before .device-of .result) (c .before .before .before .before .before .before .before .before .before .before .before .before .before .before .before .device-of .ensures) (buffersOf (c .before .before .before .before .before .before .before .before .before .before .before .before .before .before .before .before .before .before .before .before .args .state .now) (c .before .before .before .before .before .before .before .before .before .before .before .before .before .before .before .before .before .before .before .before .args .cells .now) (c .before .before .before .before .before .before .before .before .before .before .before .before .before .before .before .before .before .before .before .before .args .identification .now) (c .before .before .before .before .before .before .before .before .before .before .before .before .before .before .before .before .before .before .before .before .args .latch .now)) (c .before .before .before .before .before .before .before .before .before .before .prepare .result .state) (c .before .before .before .before .before .before .before .before .before .before .prepare .result .number) _ _ _ _ (c .before .before .before .before .before .before .before .before .before .before .before .before .before .before .if1 .left) (c .before .before .before .before .before .before .before .before .before .before .prepare .ensures) (c .before .before .put-state .ensures)
+returns-2 c =
+    let start = c .before .before .before .before .before .before .before .before .before .before .before .before .before .before .before .before .before .before .before .before in
+    let device = c .before .before .before .before .before .before .before .before .before .before .before .before .before .before .before .device-of in
+    let whole = c .before .before .before .before .before .before .before .before .before .before .before .before .before .before .if1 .left in
+    let ready = c .before .before .before .before .before .before .before .before .before .before .prepare in
+    let put = c .before .before .put-state in
+    prepare-room (start .args .device) (device .result) (device .ensures)
+    (buffersOf (start .args .state .now) (start .args .cells .now) (start .args .identification .now) (start .args .latch .now))
+    (ready .result .state) (ready .result .number) _ _ _ _ whole (ready .ensures) (put-there (ready .result .state) (start .args .state .now) _ whole (put .ensures))
 
 pub m95-prepare-spec : {M : Type 1} → statement M
 m95-prepare-spec =
