@@ -51,6 +51,32 @@ pub fn prepare(
     (Number::Done, State::prepared())
 }
 
+/// The state after power of a device that keeps these status bits and this lock: a prepared one but for them. It gives
+/// 1, then 5 for bits that the device has not and for a lock other than 0 and 1; refused, the state is that of a
+/// prepared device.
+pub fn load(number: u8, status: u8, lock: u8) -> (Number, State) {
+    let prepared = State::prepared();
+    let Some(row) = device(number) else {
+        return (Number::Device, prepared);
+    };
+    if !row.has_bits(status) || lock > 1 {
+        return (Number::State, prepared);
+    }
+    let loaded = State {
+        status,
+        locked: lock == 1,
+        ..prepared
+    };
+    (Number::Done, loaded)
+}
+
+/// What a device would keep without power: the status bits, where the status register has them, and the lock, 0 or 1.
+/// The change of a running cycle has not come yet, so it is not among them. Bits that only an unsound state can hold
+/// are given as they are, so that `load` refuses them and nothing is mended unseen.
+pub fn stored(state: &State) -> (u8, u8) {
+    (state.status, state.locked.into())
+}
+
 /// Does one event; a refused one answers Z.
 pub fn event(
     device: u8,

@@ -1,12 +1,13 @@
 //! What a chip keeps without its board: the contents that `play` reads from and writes to a file, and one run of a
 //! trace over them.
 
-use crate::calls::{lend, prepare, Ran};
+use crate::calls::{lend, load, prepare, stored, Ran};
 use crate::device::Device;
 use crate::fault::Fault;
 use crate::generate::Random;
 use crate::mistakes::{self, run_wrongly};
-use crate::state::{status_byte, State};
+use crate::number::Number;
+use crate::state::status_byte;
 
 /// Fills the room for answers; no answer has this value.
 const UNTOUCHED: u8 = 0xEE;
@@ -27,11 +28,12 @@ impl Contents {
         let mut identification = vec![0; device.page];
         let mut latch = vec![0; 2 * device.page];
         let (_, state) = prepare(device.number, &mut cells, &mut identification, &mut latch);
+        let (status, lock) = stored(&state);
         Contents {
             cells,
             identification,
-            status: state.status,
-            locked: state.locked,
+            status,
+            locked: lock == 1,
         }
     }
 
@@ -77,18 +79,16 @@ impl Contents {
         }
         let (identification, bits) = rest.split_at(device.page);
         contents.identification.copy_from_slice(identification);
-        if bits[0] & !device.status_bits() != 0 {
-            return Err(format!(
-                "status {:02X} has bits that device {} has not",
-                bits[0], device.number
-            ));
-        }
-        if bits[1] > 1 {
-            return Err(format!("lock is {}, not 0 or 1", bits[1]));
-        }
-        contents.status = bits[0];
-        contents.locked = bits[1] == 1;
+        let (status, lock) = (bits[0], bits[1]);
+        judge_kept(device, status, lock)?;
+        contents.keep((status, lock));
         Ok(contents)
+    }
+
+    /// Takes over status bits and lock in the form that `stored` gives.
+    fn keep(&mut self, (status, lock): (u8, u8)) {
+        self.status = status;
+        self.locked = lock == 1;
     }
 
     /// The long form.
@@ -98,6 +98,21 @@ impl Contents {
         bytes.extend_from_slice(&[self.status, u8::from(self.locked)]);
         bytes
     }
+}
+
+/// Says which of the two bytes `load` refuses: its number is the same for both, but whoever mends a file must know. With
+/// a lock that is right only the status bits can be wrong.
+fn judge_kept(device: &Device, status: u8, lock: u8) -> Result<(), String> {
+    let number = device.number;
+    if load(number, status, 0).0 != Number::Done {
+        return Err(format!(
+            "status {status:02X} has bits that device {number} has not"
+        ));
+    }
+    if load(number, status, lock).0 != Number::Done {
+        return Err(format!("lock is {lock}, not 0 or 1"));
+    }
+    Ok(())
 }
 
 /// What one run of a trace gave.
@@ -139,11 +154,7 @@ pub fn play_wrongly(
     room: usize,
     limit: usize,
 ) -> Played {
-    let mut state = State {
-        status: contents.status,
-        locked: contents.locked,
-        ..State::prepared()
-    };
+    let (loaded, mut state) = load(device.number, contents.status, contents.locked.into());
     let mut latch = vec![0; 2 * device.page];
     let mut answers = vec![UNTOUCHED; room.min(most_records(trace))];
     let ran = match lend(
@@ -153,11 +164,14 @@ pub fn play_wrongly(
         &mut contents.identification,
         &mut latch,
     ) {
-        Ok(chip) => run_wrongly(fault, chip, trace, &mut answers, limit),
+        Ok(chip) if loaded == Number::Done => run_wrongly(fault, chip, trace, &mut answers, limit),
+        Ok(_) => Ran::refused(loaded),
         Err(number) => Ran::refused(number),
     };
-    contents.status = state.status;
-    contents.locked = state.locked;
+    // Contents that were refused stay as they are; the state is another chip's then.
+    if loaded == Number::Done {
+        contents.keep(stored(&state));
+    }
     let rest = &answers[ran.done..];
     let rest_untouched = rest.iter().all(|&byte| byte == UNTOUCHED);
     answers.truncate(ran.done);

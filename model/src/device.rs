@@ -76,6 +76,11 @@ impl Device {
         }
     }
 
+    /// Whether each of these status bits is one that this device stores.
+    pub fn has_bits(&self, status: u8) -> bool {
+        status & !self.status_bits() == 0
+    }
+
     /// The address bit that makes an identification instruction a lock instruction ("Instructions", Address).
     /// Device 1 has only eight address bits, so it uses another one.
     pub fn lock_bit(&self) -> usize {

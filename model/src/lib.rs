@@ -20,7 +20,7 @@ mod stored;
 mod trace;
 
 pub use bench::{bench, BENCH_CELLS, BENCH_INPUT};
-pub use calls::{cell_page, event, identification_page, prepare, run, Ran};
+pub use calls::{cell_page, event, identification_page, load, prepare, run, stored, Ran};
 pub use contents::{play, play_wrongly, Contents, Played};
 pub use device::{device, Device, BP, DEVICES, SRWD};
 pub use fault::Fault;

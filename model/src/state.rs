@@ -154,7 +154,7 @@ fn received_is_sound(device: &Device, state: &State) -> bool {
 }
 
 fn stored_is_sound(device: &Device, state: &State) -> bool {
-    (state.status | state.new_status) & !device.status_bits() == 0
+    device.has_bits(state.status | state.new_status)
 }
 
 fn cycle_is_sound(device: &Device, state: &State) -> bool {
