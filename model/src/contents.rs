@@ -5,7 +5,7 @@ use crate::calls::{lend, load, prepare, stored, Ran};
 use crate::device::Device;
 use crate::fault::Fault;
 use crate::generate::Random;
-use crate::mistakes::{self, run_wrongly};
+use crate::mistakes::{self, run_wrongly, stored_wrongly};
 use crate::number::Number;
 use crate::state::status_byte;
 
@@ -170,7 +170,7 @@ pub fn play_wrongly(
     };
     // Contents that were refused stay as they are; the state is another chip's then.
     if loaded == Number::Done {
-        contents.keep(stored(&state));
+        contents.keep(stored_wrongly(fault, &state));
     }
     let rest = &answers[ran.done..];
     let rest_untouched = rest.iter().all(|&byte| byte == UNTOUCHED);

@@ -205,6 +205,10 @@ faults! {
     RefusalWritesAnswer = "a refused record writes an answer",
     LookPastLimit = "the record after the limit is looked at",
     DeviceRecordTakenInTrace = "a record of kind 16 is taken in a trace",
+    // What is stored, as it is given out.
+    StoredBitsWithWel = "the stored bits are given out with WEL and WIP",
+    StoredBitsAreNew = "the new bits of a running status cycle are given out as stored",
+    StoredLockIsNew = "the lock of a running lock cycle is given out as stored",
     // Bench program.
     BenchStatusIsStored = "the bench program ends with the stored status bits",
     BenchRefusalIsBare = "the bench program prints only the end of a refused trace",

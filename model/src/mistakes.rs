@@ -10,11 +10,11 @@ mod judging;
 mod records;
 mod sending;
 
-use crate::calls::{run_records, Ran, IDENTIFICATION_CODE};
+use crate::calls::{run_records, stored, Ran, IDENTIFICATION_CODE};
 use crate::device::Device;
 use crate::fault::Fault;
 use crate::rules::Chip;
-use crate::state::{Cycle, Output, State};
+use crate::state::{status_byte, Cycle, Output, State};
 use crate::trace::Event;
 pub use bench::bench_wrongly;
 
@@ -26,6 +26,17 @@ pub(crate) fn prepared(fault: Fault, device: &Device, identification: &mut [u8])
         _ => return,
     };
     identification[..start.len()].copy_from_slice(&start);
+}
+
+/// `stored`, with a mistake.
+pub(crate) fn stored_wrongly(fault: Fault, state: &State) -> (u8, u8) {
+    let (status, lock) = stored(state);
+    match (fault, state.cycle) {
+        (Fault::StoredBitsWithWel, _) => (status_byte(state), lock),
+        (Fault::StoredBitsAreNew, Cycle::Status) => (state.new_status, lock),
+        (Fault::StoredLockIsNew, Cycle::Lock) => (status, 1),
+        _ => (status, lock),
+    }
 }
 
 /// `run_records`, with a mistake.

@@ -7,6 +7,7 @@ use m95_model::generate::Profile;
 use m95_model::{Fault, Vector};
 
 const LATCH: &str = "only the latch shows it, which a vector does not hold";
+const BITS: &str = "only the stored bits show it, which a vector does not hold";
 const ROOM: &str = "only a full room for answers shows it, which a vector never has";
 const BEYOND: &str =
     "only the answer room past the last answer shows it, which a vector does not hold";
@@ -14,7 +15,7 @@ const LIMIT: &str = "only the limit shows it, which a vector never reaches";
 const BENCH: &str = "only the bench program shows it, which a vector does not run";
 
 /// Faults that no vector can notice, and why.
-const UNNOTICED: [(Fault, &str); 9] = [
+const UNNOTICED: [(Fault, &str); 11] = [
     (Fault::CycleEndClearsMarks, LATCH),
     (Fault::MarksClearedOnlyWithWel, LATCH),
     (Fault::LatchDataCleared, LATCH),
@@ -24,6 +25,8 @@ const UNNOTICED: [(Fault, &str); 9] = [
     (Fault::PowerJudgedBeforeRoom, ROOM),
     (Fault::RefusalWritesAnswer, BEYOND),
     (Fault::LookPastLimit, LIMIT),
+    (Fault::StoredBitsWithWel, BITS),
+    (Fault::StoredBitsAreNew, BITS),
 ];
 
 /// Prints the table and gives the number of faults that were missed without a reason, or what is wrong with the
