@@ -1,31 +1,20 @@
 -- That a prepared chip with what its file holds is not refused.
 use Prim.Native.Nat.{ℕ}
 use mathlib.Core.Path.{_≡_, sym, ap, _∙_, subst}
-use mathlib.Core.Bool.{Bool}
 use mathlib.Core.List.{List}
 use lib.ListN.{length}
 use Rattle.rules.specs.declared.Row.{Row}
 use Rattle.rules.specs.declared.State.{State}
+use Rattle.rules.specs.declared.Stored.{Stored}
 use Rattle.rules.specs.World.{worldOf}
 use Rattle.rules.specs.Device.{Widths, rowOf, prepared}
-use Rattle.rules.specs.Judge.{storable}
 use Rattle.rules.specs.Sound.{Sound, Lent}
-use Rattle.rules.specs.Call.{lentRefusal, worldRefusal, preparedAs, prepareOutcome}
+use Rattle.rules.specs.Call.{lentRefusal, worldRefusal, preparedAs, prepareOutcome, poweredWith, Loaded, loadedAs, loadOutcome}
 use Rattle.rules.proofs.Program.{world-taken}
 use Rattle.rules.proofs.Widths.{of-device}
+use Rattle.rules.proofs.Loaded.{load-taken, loaded-sound}
 use Rattle.rules.proofs.Incident.{prepared-sound, prepared-lent}
-use Rattle.player.specs.Stored.{loadedState}
 use Rattle.player.proofs.Playing.{lent-known}
-
--- A sound world stays sound with the status bits and the lock of a file, and with other cells and another identification page.
-loaded-sound : (row : Row) (s : State) (c i l c′ i′ : List ℕ) (status : ℕ) (locked : Bool) → Sound row (worldOf s c i l) → storable row status ≡ status → Sound row (worldOf (loadedState s status locked) c′ i′ l)
-loaded-sound row s c i l c′ i′ status locked h e =
-    let u = h .unsettled in
-    record {
-      unsettled =
-          record { input = u .input; inside = u .inside; stored = e; cycle = u .cycle; off = u .off; low = u .low; saw = u .saw; turned = u .turned; marks = u .marks };
-      holds = h .holds;
-    }
 
 -- A prepared chip with what its file holds is not refused.
 module _ (device : ℕ) (cells identification latch : List ℕ) (z : lentRefusal device cells identification latch ≡ 0) (n : ℕ) (s : State) (c i l : List ℕ) (ew : preparedAs n (worldOf s c i l) ≡ prepareOutcome device cells identification latch) where
@@ -39,11 +28,12 @@ module _ (device : ℕ) (cells identification latch : List ℕ) (z : lentRefusal
   pub load-fits : (row : Row) → row ≡ rowOf device → Widths row × (length c ≡ row .cells) × (length i ≡ row .page)
   load-fits row e = rw e (of-device device, ready-lent .cells, ready-lent .identification)
 
-  pub loaded : (row : Row) (status : ℕ) (locked : Bool) (t : State) (c′ i′ : List ℕ) → row ≡ rowOf device → storable row status ≡ status → t ≡ loadedState s status locked → length c′ ≡ length c → length i′ ≡ length i
+  pub loaded : (x : Stored) (m : ℕ) (t : State) (c′ i′ : List ℕ) → loadedAs m t ≡ loadOutcome device x → m ≡ 0 → length c′ ≡ length c → length i′ ≡ length i
       → worldRefusal device (worldOf t c′ i′ l) ≡ 0
-  loaded row status locked t c′ i′ er es et ec ei =
-      let bits : storable (rowOf device) status ≡ status = subst (λ (r : Row). storable r status ≡ status) er es in
+  loaded x m t c′ i′ eo z′ ec ei =
+      let taken = load-taken device x (sym (ap (λ (o : Loaded). o .number) eo) ∙ z′) in
+      let is : t ≡ poweredWith x = ap (λ (o : Loaded). o .state) eo ∙ taken .1 in
       let sound : Sound (rowOf device) (worldOf s c i l) = subst (Sound (rowOf device)) (sym ready) (prepared-sound (of-device device)) in
-      let sound′ : Sound (rowOf device) (worldOf t c′ i′ l) = rw et (loaded-sound (rowOf device) s c i l c′ i′ status locked sound bits) in
+      let sound′ : Sound (rowOf device) (worldOf t c′ i′ l) = rw is (loaded-sound (of-device device) x c′ i′ l (sound .unsettled .marks) (taken .0)) in
       let lent : Lent (rowOf device) (worldOf t c′ i′ l) = record { cells = ec ∙ ready-lent .cells; identification = ei ∙ ready-lent .identification; latch = ready-lent .latch } in
       world-taken device (worldOf t c′ i′ l) (lent-known device cells identification latch z) sound′ lent

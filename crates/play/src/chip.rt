@@ -1,70 +1,44 @@
-// The chip's new contents: the name under which they are written, their taking CHIP's place, and the state that a file's contents give.
+// The chip's new contents: written to their own file, which then takes CHIP's place.
 
-ghost use Prim.Native.Nat.{_+_, _≤_};
-ghost use mathlib.Core.Path.{_≡_};
-ghost use lib.ListN.{length};
-ghost use Rattle.io.specs.Counts.{Counts};
-ghost use Rattle.player.specs.Stored.{loadedState};
 use crate::say::fail;
 use player::contents;
 use player::pieces::Played;
-use rules::Registers;
-use rules::State;
 
-// The name beside CHIP under which its new contents are written, and its length.
-pub fn name_beside(chip: &[u8], beside: &mut [u8]) -> usize
-    requires { ⌜ length (now chip) + 4 ≤ length (now beside) ⌝ }
-    ensures { λ r. ⌜ Counts r (now (beside .exit)) ⌝ }
-{
-    let named = text::put(chip, beside, 0);
-    text::put(b".new", beside, named)
+// Whether a run left the chip as it was: its first record was refused.
+fn is_untouched(played: Played) -> bool {
+    (played.number != 0) & (played.records == 0)
 }
 
-// Puts the chip's new contents, written beside CHIP, in CHIP's place, and answers whether they are there. After any trouble what
-// was written beside is removed.
+// Puts the chip's new contents into CHIP's place by way of NEW, open as `fresh`, and answers whether the run can be told. After any
+// trouble, and where CHIP is as good as new, NEW is removed and CHIP stays as it is.
 pub fn replace(
     played: Played,
-    new: i32,
+    fresh: i32,
     cells: &[u8],
     identification: &[u8],
-    beside: &[u8],
+    new: &[u8],
     chip: &[u8],
 ) -> bool {
     if played.unread | played.unwritten {
-        os::unlink(beside);
+        os::unlink(new);
         return false;
     }
-    let registers = played.state.registers;
-    let is_stored = contents::store(
-        new,
-        cells,
-        identification,
-        registers.status,
-        registers.locked,
-    );
-    if !is_stored {
-        fail(b"play: cannot write the chip's new contents ", beside);
-        os::unlink(beside);
+    if is_untouched(played) {
+        os::unlink(new);
+        return true;
+    }
+    let state = played.state;
+    let stored = m95::stored(state);
+    if !contents::store(fresh, cells, identification, stored) {
+        fail(b"play: cannot write the chip's new contents ", new);
+        os::unlink(new);
         return false;
     }
-    libc::close(new);
-    if os::rename(beside, chip) != 0 {
+    libc::close(fresh);
+    if os::rename(new, chip) != 0 {
         fail(b"play: cannot replace the chip ", chip);
-        os::unlink(beside);
+        os::unlink(new);
         return false;
     }
     true
-}
-// The state with the stored status bits and lock of a chip's file.
-pub fn with_contents(s: State, status: u8, locked: bool) -> State
-    ensures { λ r. ⌜ r ≡ loadedState s status locked ⌝ }
-{
-    let registers = Registers {
-        status: status,
-        wel: s.registers.wel,
-        locked: locked,
-    };
-    let mut t = s;
-    t.registers = registers;
-    t
 }

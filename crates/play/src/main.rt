@@ -1,6 +1,8 @@
-// play DEVICE CHIP TRACE ANSWERS: runs a trace of any length on any device. CHIP keeps the chip's contents from run to run, ANSWERS
-// gets a byte for each record done, and standard output says how it ended and how much was done. Bad use gets one line on standard
-// error and changes no file: every file that is read is read, and CHIP's new contents have their place, before ANSWERS is opened.
+// play DEVICE CHIP TRACE ANSWERS NEW: runs a trace of any length on any device. CHIP keeps the chip's contents from run to run, ANSWERS
+// gets a byte for each record done, and standard output says how it ended and how much was done. CHIP's new contents are written to NEW,
+// which then takes CHIP's place. `run` makes NEW, with CHIP's mode, and has seen that no two of the names lead to one file: that is what a
+// proved program cannot ask the system. Bad use gets one line on standard error and changes no file: every file that is read is
+// read, and NEW is open, before ANSWERS is opened.
 mod chip;
 mod say;
 mod words;
@@ -10,9 +12,7 @@ ghost use mathlib.Core.Path.{_≡_};
 ghost use lib.ListN.{length};
 ghost use Rattle.rules.specs.World.{worldOf};
 ghost use Rattle.rules.specs.Call.{lentRefusal, worldRefusal};
-use chip::name_beside;
 use chip::replace;
-use chip::with_contents;
 use player::contents;
 use player::pieces;
 use player::pieces::Played;
@@ -21,9 +21,9 @@ use say::complain;
 use say::fail;
 use say::is_faulty;
 use say::tell;
-use say::tell_unmade;
+use say::tell_kind_16;
 use words::device_named;
-use words::is_same;
+use words::is_twice;
 
 // Runs the trace into ANSWERS, from what was read of it. Trouble is told, and marked in what is handed back.
 fn play_into(
@@ -71,7 +71,7 @@ fn play_into(
     played
 }
 
-// Plays the trace on a chip that is loaded. TRACE is read, and CHIP's new contents get their place, before ANSWERS is touched.
+// Plays the trace on a chip that is loaded. TRACE is read, and NEW is open, before ANSWERS is touched.
 fn play_loaded(
     device: u8,
     state: State,
@@ -81,29 +81,29 @@ fn play_loaded(
     chip: &[u8],
     trace: &[u8],
     answers: &[u8],
+    new: &[u8],
 )
-    requires { ⌜ (worldRefusal device (worldOf state (now cells) (now identification) (now latch)) ≡ 0) × (length (now chip) ≤ 4096) ⌝ }
+    requires { ⌜ worldRefusal device (worldOf state (now cells) (now identification) (now latch)) ≡ 0 ⌝ }
 {
     let mut buf = io::large_buffer();
-    let mut name = [0u8; 4100];
-    let length = name_beside(chip, &mut name);
-    let beside = &name[..length];
     let input = os::open_read(trace);
     if input < 0 {
         fail(b"play: cannot read the trace ", trace);
         return;
     }
     let read = files::read_up(input, &mut buf);
+    let count = read.count;
     if read.failed {
         fail(b"play: cannot read the trace ", trace);
         return;
     }
-    let new = os::create(beside);
-    if new < 0 {
-        tell_unmade(beside);
+    let fresh = os::open_overwrite(new);
+    if fresh < 0 {
+        fail(b"play: cannot write the chip's new contents ", new);
         return;
     }
-    let start = pieces::started(state, read.count);
+    tell_kind_16(&buf[..count]);
+    let start = pieces::started(state, count);
     let played = play_into(
         device,
         start,
@@ -115,7 +115,7 @@ fn play_loaded(
         trace,
         answers,
     );
-    if replace(played, new, cells, identification, beside, chip) {
+    if replace(played, fresh, cells, identification, new, chip) {
         tell(played);
     }
 }
@@ -129,32 +129,40 @@ fn play_lent(
     chip: &[u8],
     trace: &[u8],
     answers: &[u8],
+    new: &[u8],
 )
-    requires { ⌜ (lentRefusal device (now cells) (now identification) (now latch) ≡ 0) × (length (now chip) ≤ 4096) ⌝ }
+    requires { ⌜ lentRefusal device (now cells) (now identification) (now latch) ≡ 0 ⌝ }
 {
-    let ready = m95::prepare(device, cells, identification, latch);
+    m95::prepare(device, cells, identification, latch);
     let row = tables::row_of(device);
-    let stored = contents::load(row, chip, cells, identification);
-    let fault = stored.fault;
+    let said = contents::load(row, chip, cells, identification);
+    let fault = said.fault;
     if is_faulty(fault, chip) {
         return;
     }
-    let state = with_contents(ready.state, stored.status, stored.locked);
+    let loaded = m95::load(device, said.stored);
+    if loaded.number != 0 {
+        complain(
+            b"play: CHIP's last two bytes: its status byte has bits that the device has not, or its lock byte is neither 0 nor 1\n",
+        );
+        return;
+    }
     play_loaded(
         device,
-        state,
+        loaded.state,
         cells,
         identification,
         latch,
         chip,
         trace,
         answers,
+        new,
     );
 }
 
 // Plays the trace on a device, in as much of the room as it has cells and pages.
-fn play_device(device: u8, chip: &[u8], trace: &[u8], answers: &[u8])
-    requires { ⌜ (1 ≤ device) × (device ≤ 4) × (length (now chip) ≤ 4096) ⌝ }
+fn play_device(device: u8, chip: &[u8], trace: &[u8], answers: &[u8], new: &[u8])
+    requires { ⌜ (1 ≤ device) × (device ≤ 4) ⌝ }
 {
     let mut cells = [0xFFu8; 262144];
     let mut identification = [0u8; 256];
@@ -171,27 +179,26 @@ fn play_device(device: u8, chip: &[u8], trace: &[u8], answers: &[u8])
         chip,
         trace,
         answers,
+        new,
     );
 }
 
 // Plays the trace, if the words are good.
-fn play(word: &[u8], chip: &[u8], trace: &[u8], answers: &[u8])
-    requires { ⌜ length (now chip) ≤ 4096 ⌝ }
-{
+fn play(word: &[u8], chip: &[u8], trace: &[u8], answers: &[u8], new: &[u8]) {
     let device = device_named(word);
     if device == 0 {
         complain(b"play: DEVICE is 1 (M95040), 2 (M95128), 3 (M95M01) or 4 (M95M02)\n");
         return;
     }
-    if (chip.len() == 0) | (trace.len() == 0) | (answers.len() == 0) {
+    if (chip.len() == 0) | (trace.len() == 0) | (answers.len() == 0) | (new.len() == 0) {
         complain(b"play: the name of a file is empty, or longer than 4096 bytes\n");
         return;
     }
-    if is_same(chip, trace) | is_same(chip, answers) | is_same(trace, answers) {
-        complain(b"play: CHIP, TRACE and ANSWERS must be three files\n");
+    if is_twice(chip, trace, answers, new) {
+        complain(b"play: CHIP, TRACE, ANSWERS and NEW must be four files\n");
         return;
     }
-    play_device(device, chip, trace, answers);
+    play_device(device, chip, trace, answers, new);
 }
 
 // Opens a descriptor where standard input, output or error is closed, so that no file of ours gets one of their numbers.
@@ -206,17 +213,27 @@ fn main() {
     occupy();
     occupy();
     occupy();
-    if os::arg_count() != 5 {
-        complain(b"play: it takes four words: play DEVICE CHIP TRACE ANSWERS\n");
+    if os::arg_count() != 6 {
+        complain(
+            b"play: it takes five words: play DEVICE CHIP TRACE ANSWERS NEW; './run play' takes the first four, and makes NEW\n",
+        );
         return;
     }
     let mut word = io::buffer();
     let mut chip = io::buffer();
     let mut trace = io::buffer();
     let mut answers = io::buffer();
+    let mut new = io::buffer();
     let w = os::arg(1, &mut word);
     let c = os::arg(2, &mut chip);
     let t = os::arg(3, &mut trace);
     let a = os::arg(4, &mut answers);
-    play(&word[..w], &chip[..c], &trace[..t], &answers[..a]);
+    let n = os::arg(5, &mut new);
+    play(
+        &word[..w],
+        &chip[..c],
+        &trace[..t],
+        &answers[..a],
+        &new[..n],
+    );
 }

@@ -7,6 +7,7 @@ use libc::STDOUT_FILENO;
 use player::contents::Fault;
 use player::pieces::Played;
 use player::summary;
+use traces::trace::two_at;
 
 // One line on standard error.
 pub fn complain(line: &[u8]) {
@@ -29,22 +30,20 @@ pub fn is_faulty(fault: Fault, path: &[u8]) -> bool {
         Fault::Length => complain(
             b"play: CHIP's length is not the device's: its cells, or these with identification page, status and lock: 512 or 530 bytes for device 1, 16384 or 16450 for 2, 131072 or 131330 for 3, 262144 or 262402 for 4\n",
         ),
-        Fault::Status => complain(b"play: CHIP's status byte has bits that the device has not\n"),
-        Fault::Lock => complain(b"play: CHIP's lock byte is neither 0 nor 1\n"),
     }
     true
 }
 
-// Why there is no place for the chip's new contents. A file of that name is another run's, or was left by one that was cut off.
-pub fn tell_unmade(beside: &[u8]) {
-    if os::errno() == libc::EEXIST {
-        fail(
-            b"play: another run uses this chip, or one was cut off; if none runs, remove ",
-            beside,
-        );
+// A line where a trace begins with a record of kind 16, which names the device for the bench and belongs to no trace.
+pub fn tell_kind_16(trace: &[u8]) {
+    if trace.len() < 4 {
         return;
     }
-    fail(b"play: cannot write the chip's new contents ", beside);
+    if two_at(trace, 2) == 16 {
+        complain(
+            b"play: TRACE begins with the bench's first record, of kind 16; play has the word DEVICE instead: leave that record out\n",
+        );
+    }
 }
 
 // Prints the last line.

@@ -20,7 +20,7 @@ pub fn device_named(word: &[u8]) -> u8
 }
 
 // Whether two names are the same.
-pub fn is_same(a: &[u8], b: &[u8]) -> bool {
+fn is_same(a: &[u8], b: &[u8]) -> bool {
     if a.len() != b.len() {
         return false;
     }
@@ -30,4 +30,14 @@ pub fn is_same(a: &[u8], b: &[u8]) -> bool {
         }
     }
     true
+}
+
+// Whether one of four names stands among them twice.
+pub fn is_twice(chip: &[u8], trace: &[u8], answers: &[u8], new: &[u8]) -> bool {
+    is_same(chip, trace)
+        | is_same(chip, answers)
+        | is_same(chip, new)
+        | is_same(trace, answers)
+        | is_same(trace, new)
+        | is_same(answers, new)
 }

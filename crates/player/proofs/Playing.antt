@@ -12,66 +12,38 @@ use lib.Pow.{pow-mono}
 use borrow.Rule.Slice.PartMut.{postOf, putMid}
 use borrow.Author.Tests.{eq-eqb, ne-eqb, lt-ltb, le-ltb, eqb-true, not-false}
 use Rattle.rules.specs.declared.Row.{Row}
+use Rattle.rules.specs.declared.Stored.{Stored}
 use Rattle.rules.specs.World.{bit, number, World}
 use Rattle.rules.specs.Device.{Widths, m95040, table, isDevice, rowOf}
-use Rattle.rules.specs.Judge.{storable}
 use Rattle.rules.specs.Trace.{Progress}
-use Rattle.rules.specs.Call.{lentRefusal, worldRefusal, runOutcome}
+use Rattle.rules.specs.Call.{lentRefusal, worldRefusal, storedAs, runOutcome}
 use Rattle.rules.proofs.Choice.{if-elim}
 use Rattle.rules.proofs.Program.{world-taken}
 use Rattle.rules.proofs.Runs.{Course}
 use Rattle.rules.proofs.Widths.{page-below}
 use Rattle.m95.proofs.Calling.{run-course}
 use Rattle.player.specs.declared.contents.Fault.{Fault}
-use Rattle.player.specs.declared.contents.Stored.{Stored}
-use Rattle.player.specs.Stored.{storedAs, storedOf}
+use Rattle.player.specs.declared.contents.Said.{Said}
+use Rattle.player.specs.File.{saidAs, said}
 
 -- The length of a chip's file fits.
 pub file-fits : {row : Row} → Widths row → row .cells + row .page + 2 < 2 ^ 26
 file-fits {row} v = let small : 2 ^ v .cellBits ≤ 2 ^ 24 = pow-mono (v .narrow) in omega (arith, small, v .cells, page-below v)
 
--- No status bits are bits of every device.
-pub no-bits : (row : Row) → storable row 0 ≡ 0
-no-bits row = nothing (row .srwd)
-  where
-    nothing : (srwd : Bool) → number (srwd && bit 0 7) * 128 + 0 / 4 % 4 * 4 ≡ 0
-    nothing true = refl
-    nothing false = refl
-
 -- A chip's file.
-module _ (row : Row) (n status lock : ℕ) where
-  pub stored-raw : (r : Stored) → r ≡ storedAs Fault.None 0 false → n ≡ row .cells → r ≡ storedOf row n status lock
-  unfolding storedOf
-  stored-raw r e h = e ∙ rw (eq-eqb n (row .cells) h)
+module _ (row : Row) (n : ℕ) (x : Stored) where
+  pub said-raw : (r : Said) → r ≡ saidAs Fault.None (storedAs 0 0) → n ≡ row .cells → r ≡ said row n x
+  unfolding said
+  said-raw r e h = e ∙ rw (eq-eqb n (row .cells) h)
 
   module _ (a : n ≡ row .cells → ⊥) where
-    pub stored-length : (r : Stored) → r ≡ storedAs Fault.Length 0 false → (n ≡ row .cells + row .page + 2 → ⊥) → r ≡ storedOf row n status lock
-    unfolding storedOf
-    stored-length r e h = e ∙ rw (ne-eqb n (row .cells) a, ne-eqb n (row .cells + row .page + 2) h)
+    pub said-length : (r : Said) → r ≡ saidAs Fault.Length (storedAs 0 0) → (n ≡ row .cells + row .page + 2 → ⊥) → r ≡ said row n x
+    unfolding said
+    said-length r e h = e ∙ rw (ne-eqb n (row .cells) a, ne-eqb n (row .cells + row .page + 2) h)
 
-    module _ (b : n ≡ row .cells + row .page + 2) (m : ℕ) (em : m ≡ storable row status) where
-      pub stored-status : (r : Stored) → r ≡ storedAs Fault.Status 0 false → (m ≡ status → ⊥) → r ≡ storedOf row n status lock
-      unfolding storedOf
-      stored-status r e h = e ∙ rw (ne-eqb n (row .cells) a, eq-eqb n (row .cells + row .page + 2) b, ← em, ne-eqb m status h)
-
-      module _ (d : m ≡ status) where
-        pub stored-lock : (r : Stored) → r ≡ storedAs Fault.Lock 0 false → 1 < lock → r ≡ storedOf row n status lock
-        unfolding storedOf
-        stored-lock r e h = e ∙ rw (ne-eqb n (row .cells) a, eq-eqb n (row .cells + row .page + 2) b, ← em, eq-eqb m status d, lt-ltb 1 lock h)
-
-        pub stored-whole : (r : Stored) → r ≡ storedAs Fault.None status (eqb lock 1) → lock ≤ 1 → r ≡ storedOf row n status lock
-        unfolding storedOf
-        stored-whole r e h = e ∙ rw (ne-eqb n (row .cells) a, eq-eqb n (row .cells + row .page + 2) b, ← em, eq-eqb m status d, le-ltb 1 lock h)
-
--- The status of what is judged is the device's.
-pub stored-bits : (row : Row) (n status lock : ℕ) → storable row (storedOf row n status lock .status) ≡ storedOf row n status lock .status
-unfolding storedOf
-stored-bits row n status lock =
-    let P : Stored → Type 0 = λ (r : Stored). storable row (r .status) ≡ r .status in
-    if-elim P (eqb n (row .cells)) (λ _. no-bits row)
-    (λ _. if-elim P (not (eqb n (row .cells + row .page + 2))) (λ _. no-bits row)
-    (λ _. if-elim P (not (eqb (storable row status) status)) (λ _. no-bits row)
-    (λ e. if-elim P (ltb 1 lock) (λ _. no-bits row) (λ _. eqb-true (storable row status) status (not-false (eqb (storable row status) status) e)))))
+    pub said-whole : n ≡ row .cells + row .page + 2 → saidAs Fault.None x ≡ said row n x
+    unfolding said
+    said-whole h = rw (ne-eqb n (row .cells) a, eq-eqb n (row .cells + row .page + 2) h)
 
 -- The bytes that are kept, i of them so far.
 abbrev pub moved : List ℕ → ℕ → ℕ → List ℕ
@@ -97,9 +69,6 @@ moved-more b l from i place el ep h =
 
 pub moved-all : (b : List ℕ) (from n : ℕ) → from + n ≤ length b → take n (moved b from n) ≡ take n (drop from b)
 moved-all b from n h = take-at (take n (drop from b)) (drop n b) n (length-take-le n (drop from b) (omega (arith, length-drop from b)))
-
-pub bits-of : (row : Row) (r q : Stored) → r ≡ q → storable row (q .status) ≡ q .status → storable row (r .status) ≡ r .status
-bits-of row r q e h = subst (λ (x : Stored). storable row (x .status) ≡ x .status) (sym e) h
 
 -- Buffers and worlds that are not refused are a device's.
 pub lent-known : (device : ℕ) (cells identification latch : List ℕ) → lentRefusal device cells identification latch ≡ 0 → isDevice device ≡ true

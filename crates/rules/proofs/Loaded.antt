@@ -1,12 +1,13 @@
 -- The theorems `given-back` and `as-after-power`: what is stored, out and in again.
-use Prim.Native.Nat.{ℕ, zero, suc, _+_}
+use Prim.Native.Nat.{ℕ, zero, suc, _+_, _≤_}
 use mathlib.Core.Path.{_≡_, refl, sym, ap, _∙_, subst}
 use mathlib.Core.Bool.{Bool, true, false, not}
-use native.Mathlib.Nat.{zero-mod}
+use mathlib.Core.List.{List}
 use native.Mathlib.Omega.{arith}
+use lib.ListN.{getD}
 use lib.Dec.{eqb, ltb}
-use borrow.Author.Tests.{eq-eqb, ltb-false}
-use Rattle.rules.specs.World.{Row, Stored, World, Event, if_then_else_, number, withState}
+use borrow.Author.Tests.{eq-eqb, ltb-false, eqb-true, not-false}
+use Rattle.rules.specs.World.{Row, Stored, World, Event, if_then_else_, number, worldOf, withState}
 use Rattle.rules.specs.Device.{Widths, isDevice, rowOf, preparedState, prepared}
 use Rattle.rules.specs.Instruction.{busy}
 use Rattle.rules.specs.Judge.{storable}
@@ -17,7 +18,7 @@ use Rattle.rules.specs.Selections.{Contents, contents}
 use Rattle.rules.specs.Loaded as spec
 use Rattle.rules.proofs.Choice.{if-elim, clash}
 use Rattle.rules.proofs.Incident.{prepared-sound}
-use Rattle.rules.proofs.Widths.{page-below, of-device}
+use Rattle.rules.proofs.Widths.{of-device}
 use Rattle.rules.proofs.Program.{world-taken, world-facts}
 
 -- What loading takes: a lock of 0 or 1.
@@ -44,23 +45,34 @@ lock-again : (b : Bool) → eqb (number b) 1 ≡ b
 lock-again true = refl
 lock-again false = refl
 
--- A world that is sound stays so with the state of a chip that has just got its power, in the same buffers.
-loaded-sound : {row : Row} → Widths row → (w : World) (x : Stored) → Sound row w → storable row (x .status) ≡ x .status → Sound row (withState (poweredWith x) w)
+-- What loading took is stored as the device stores it, and the state is the one after power.
+pub load-taken : (device : ℕ) (x : Stored) → loadOutcome device x .number ≡ 0 → (storable (rowOf device) (x .status) ≡ x .status) × (loadOutcome device x .state ≡ poweredWith x)
+unfolding loadOutcome
+load-taken device x =
+    let own = eqb (storable (rowOf device) (x .status)) (x .status) in
+    let P : ℕ → Type 0 = λ (n : ℕ). n ≡ 0 → (storable (rowOf device) (x .status) ≡ x .status) × ((if eqb n 0 then poweredWith x else preparedState) ≡ poweredWith x) in
+    if-elim P (not (isDevice device)) (λ _ e. absurd (omega arith))
+    (λ _. if-elim P (not own) (λ _ e. absurd (omega arith))
+    (λ o. if-elim P (ltb 1 (x .lock)) (λ _ e. absurd (omega arith)) (λ _ _. (eqb-true (storable (rowOf device) (x .status)) (x .status) (not-false own o), refl))))
+
+-- That state is sound in any buffers whose marks are 0 and 1.
+pub loaded-sound : {row : Row} → Widths row → (x : Stored) (cells identification latch : List ℕ) → ((i : ℕ) → getD latch (row .page + i) 0 ≤ 1) → storable row (x .status) ≡ x .status
+    → Sound row (worldOf (poweredWith x) cells identification latch)
 unfolding prepared
-loaded-sound {row} v w x h e =
+loaded-sound {row} v x cells identification latch marks own =
     let p = prepared-sound v .unsettled in
     record {
       unsettled =
           record {
             input = p .input;
-            inside = omega (arith, page-below v);
-            stored = e;
-            cycle = record { only = p .cycle .only; runs = λ e. clash (sym e); rests = λ _. refl; aligned = zero-mod (row .page); inside = omega (arith, page-below v); first = λ _. refl };
-            off = λ _. record { held = refl; bits = refl; bytes = refl; z = refl };
+            inside = p .inside;
+            stored = own;
+            cycle = p .cycle;
+            off = p .off;
             low = λ e. clash (sym e);
             saw = λ e. clash (sym e);
             turned = λ e. clash (sym e);
-            marks = h .unsettled .marks;
+            marks = marks;
           };
       holds = λ e. clash (sym e);
     }
@@ -91,7 +103,7 @@ module _ (device : ℕ) (w : World) (z : worldRefusal device w ≡ 0) where
   reloads = rw (facts .0, eq-eqb (storable (rowOf device) (w .state .registers .status)) (w .state .registers .status) bits, lock-small (w .state .registers .locked))
 
   powered-sound : Sound (rowOf device) (withState (poweredWith (storedIn (w .state))) w)
-  powered-sound = loaded-sound (of-device device) w (storedIn (w .state)) (facts .1) bits
+  powered-sound = loaded-sound (of-device device) (storedIn (w .state)) (w .cells) (w .identification) (w .latch) (facts .1 .unsettled .marks) bits
 
   reloaded-is : spec.reloaded device w ≡ withState (poweredWith (storedIn (w .state))) w
   reloaded-is = ap (λ (o : Loaded). withState (o .state) w) reloads

@@ -12,7 +12,10 @@ row-of-requires : tie.Need-row-of-requires
 row-of-requires c κs = search needs
 
 load-requires : tie.Need-load-requires
-load-requires c κs = load-fits (c .before .before .before .before .before .before .before .before .before .before .before .before .before .before .before .before .before .before .before .args .device) (c .before .before .before .before .before .before .before .before .before .before .before .before .before .before .before .before .before .before .before .args .cells .now) (c .before .before .before .before .before .before .before .before .before .before .before .before .before .before .before .before .before .before .before .args .identification .now) (c .before .before .before .before .before .before .before .before .before .before .before .before .before .before .before .before .before .before .before .args .latch .now) (c .before .before .before .before .before .before .before .before .before .before .before .before .before .before .before .before .before .before .before .pre .0) _ _ _ _ _ (c .before .before .before .before .before .before .before .before .before .prepare .ensures) (c .before .before .row-of .result) (c .before .before .row-of .ensures)
+load-requires c κs =
+    let start = c .before .before .before .before .before .before .before .before .before .before .before .before .before .before .before .before .before .before .before .before in
+    load-fits (start .args .device) (start .args .cells .now) (start .args .identification .now) (start .args .latch .now) (start .pre) _ _ _ _ _ (c .before .before .before .before .before .before .before .before .before .prepare .ensures)
+    (c .before .before .row-of .result) (c .before .before .row-of .ensures)
 
 is-faulty-requires : tie.Need-is-faulty-requires
 is-faulty-requires c κs = search needs
@@ -29,23 +32,45 @@ same-length-3 c = search needs
 returns : tie.Need-returns
 returns c = search needs
 
-with-contents-requires : tie.Need-with-contents-requires
-with-contents-requires c κs = search needs
+load-requires-2 : tie.Need-load-requires-2
+load-requires-2 c κs = search needs
 
-play-loaded-requires : tie.Need-play-loaded-requires
-play-loaded-requires c κs = (loaded (c .before .before .before .before .before .before .before .before .before .before .before .before .before .before .before .before .before .before .before .before .before .before .before .before .before .before .before .before .before .before .args .device) (c .before .before .before .before .before .before .before .before .before .before .before .before .before .before .before .before .before .before .before .before .before .before .before .before .before .before .before .before .before .before .args .cells .now) (c .before .before .before .before .before .before .before .before .before .before .before .before .before .before .before .before .before .before .before .before .before .before .before .before .before .before .before .before .before .before .args .identification .now) (c .before .before .before .before .before .before .before .before .before .before .before .before .before .before .before .before .before .before .before .before .before .before .before .before .before .before .before .before .before .before .args .latch .now) (c .before .before .before .before .before .before .before .before .before .before .before .before .before .before .before .before .before .before .before .before .before .before .before .before .before .before .before .before .before .before .pre .0) _ _ _ _ _ (c .before .before .before .before .before .before .before .before .before .before .before .before .before .before .before .before .before .before .before .before .prepare .ensures) (c .before .before .before .before .before .before .before .before .before .before .before .before .before .row-of .result) _ _ _ _ _ (c .before .before .before .before .before .before .before .before .before .before .before .before .before .row-of .ensures) (c .before .before .before .before .before .before .before .before .before .before .load .ensures) (c .before .before .before .with-contents .ensures) (c .before .before .before .before .before .before .before .before .before .cells2 .given) (c .before .before .before .before .before .before .before .identification2 .given), c .before .before .before .before .before .before .before .before .before .before .before .before .before .before .before .before .before .before .before .before .before .before .before .before .before .before .before .before .before .before .pre .1)
+slice-aggregate-complain : tie.Need-slice-aggregate-complain
+slice-aggregate-complain c = search needs
+
+complain-requires : tie.Need-complain-requires
+complain-requires c κs = search needs
 
 same-length-4 : tie.Need-same-length-4
-same-length-4 c = c .before .before .before .before .before .cells3 .given ∙ c .before .before .before .before .before .before .before .before .before .before .before .before .before .before .before .before .cells2 .given ∙ c .before .before .before .before .before .before .before .before .before .before .before .before .before .before .before .before .before .before .before .before .before .before .before .before .before .before .cells .given
+same-length-4 c = c .before .before .before .before .before .before .before .before .before .before .cells2 .given ∙ c .before .before .before .before .before .before .before .before .before .before .before .before .before .before .before .before .before .before .before .before .cells .given
 
 same-length-5 : tie.Need-same-length-5
-same-length-5 c = c .before .before .before .identification3 .given ∙ c .before .before .before .before .before .before .before .before .before .before .before .before .before .before .identification2 .given ∙ c .before .before .before .before .before .before .before .before .before .before .before .before .before .before .before .before .before .before .before .before .before .before .before .before .identification .given
+same-length-5 c = c .before .before .before .before .before .before .before .before .identification2 .given ∙ c .before .before .before .before .before .before .before .before .before .before .before .before .before .before .before .before .before .before .identification .given
 
 same-length-6 : tie.Need-same-length-6
-same-length-6 c = c .before .latch2 .given ∙ c .before .before .before .before .before .before .before .before .before .before .before .before .before .before .before .before .before .before .before .before .before .before .latch .given
+same-length-6 c = c .before .before .before .before .before .before .before .before .before .before .before .before .before .before .before .before .latch .given
 
 returns-2 : tie.Need-returns-2
 returns-2 c = search needs
+
+play-loaded-requires : tie.Need-play-loaded-requires
+play-loaded-requires c κs =
+    let start = c .before .before .before .before .before .before .before .before .before .before .before .before .before .before .before .before .before .before .before .before .before .before .before .before .before .before .before .before .before .before .before .before .before in
+    let chip = c .before .before .before .before .before .load2 in
+    loaded (start .args .device) (start .args .cells .now) (start .args .identification .now) (start .args .latch .now) (start .pre) _ _ _ _ _ (c .before .before .before .before .before .before .before .before .before .before .before .before .before .before .before .before .before .before .before .before .before .before .prepare .ensures)
+    (c .before .before .before .before .before .before .before .before .before .before .before .before .load .result .stored) (chip .result .number) (chip .result .state) _ _ (chip .ensures) (c .before .before .before .if2 .left) (c .before .before .before .before .before .before .before .before .before .before .before .cells2 .given) (c .before .before .before .before .before .before .before .before .before .identification2 .given)
+
+same-length-7 : tie.Need-same-length-7
+same-length-7 c = c .before .before .before .before .before .cells3 .given ∙ c .before .before .before .before .before .before .before .before .before .before .before .before .before .before .before .before .before .before .cells2 .given ∙ c .before .before .before .before .before .before .before .before .before .before .before .before .before .before .before .before .before .before .before .before .before .before .before .before .before .before .before .before .cells .given
+
+same-length-8 : tie.Need-same-length-8
+same-length-8 c = c .before .before .before .identification3 .given ∙ c .before .before .before .before .before .before .before .before .before .before .before .before .before .before .before .before .identification2 .given ∙ c .before .before .before .before .before .before .before .before .before .before .before .before .before .before .before .before .before .before .before .before .before .before .before .before .before .before .identification .given
+
+same-length-9 : tie.Need-same-length-9
+same-length-9 c = c .before .latch2 .given ∙ c .before .before .before .before .before .before .before .before .before .before .before .before .before .before .before .before .before .before .before .before .before .before .before .before .latch .given
+
+returns-3 : tie.Need-returns-3
+returns-3 c = search needs
 
 pub play-lent-spec : {M : Type 1} → statement M
 play-lent-spec =
@@ -59,9 +84,15 @@ play-lent-spec =
     same-length-2
     same-length-3
     returns
-    with-contents-requires
-    play-loaded-requires
+    load-requires-2
+    slice-aggregate-complain
+    complain-requires
     same-length-4
     same-length-5
     same-length-6
-    returns-2)
+    returns-2
+    play-loaded-requires
+    same-length-7
+    same-length-8
+    same-length-9
+    returns-3)

@@ -12,18 +12,6 @@ use Rattle.play.proofs.play_loaded.Tie as tie
 large-buffer-requires : tie.Need-large-buffer-requires
 large-buffer-requires c κs = search needs
 
-slice-aggregate-name-beside : tie.Need-slice-aggregate-name-beside
-slice-aggregate-name-beside c = search needs
-
-name-beside-requires : tie.Need-name-beside-requires
-name-beside-requires c κs = search needs
-
-array-share-prefix-name : tie.Need-array-share-prefix-name
-array-share-prefix-name c = search needs
-
-slice-aggregate-beside : tie.Need-slice-aggregate-beside
-slice-aggregate-beside c = search needs
-
 open-read-requires : tie.Need-open-read-requires
 open-read-requires c κs = search needs
 
@@ -51,14 +39,26 @@ fail-requires-2 c κs = search needs
 returns-2 : tie.Need-returns-2
 returns-2 c = search needs
 
-create-requires : tie.Need-create-requires
-create-requires c κs = search needs
+open-overwrite-requires : tie.Need-open-overwrite-requires
+open-overwrite-requires c κs = search needs
 
-tell-unmade-requires : tie.Need-tell-unmade-requires
-tell-unmade-requires c κs = search needs
+slice-aggregate-fail-3 : tie.Need-slice-aggregate-fail-3
+slice-aggregate-fail-3 c = search needs
+
+fail-requires-3 : tie.Need-fail-requires-3
+fail-requires-3 c κs = search needs
 
 returns-3 : tie.Need-returns-3
 returns-3 c = search needs
+
+array-share-prefix-buf : tie.Need-array-share-prefix-buf
+array-share-prefix-buf c = search needs
+
+slice-aggregate-tell-kind-16 : tie.Need-slice-aggregate-tell-kind-16
+slice-aggregate-tell-kind-16 c = search needs
+
+tell-kind-16-requires : tie.Need-tell-kind-16-requires
+tell-kind-16-requires c κs = search needs
 
 started-requires : tie.Need-started-requires
 started-requires c κs = search needs
@@ -67,13 +67,21 @@ slice-aggregate-play-into : tie.Need-slice-aggregate-play-into
 slice-aggregate-play-into c = search needs
 
 play-into-requires : tie.Need-play-into-requires
-play-into-requires c κs = (subst (λ (s : State). worldRefusal (c .before .before .before .before .before .before .before .before .before .before .before .before .before .before .before .before .before .before .before .before .before .before .before .before .args .device) (worldOf s (c .before .before .before .before .before .before .before .before .before .before .before .before .before .before .before .before .before .before .before .before .before .before .before .before .args .cells .now) (c .before .before .before .before .before .before .before .before .before .before .before .before .before .before .before .before .before .before .before .before .before .before .before .before .args .identification .now) (c .before .before .before .before .before .before .before .before .before .before .before .before .before .before .before .before .before .before .before .before .before .before .before .before .args .latch .now)) ≡ 0) (sym (c .before .before .before .before .started .ensures .0)) (c .before .before .before .before .before .before .before .before .before .before .before .before .before .before .before .before .before .before .before .before .before .before .before .before .pre .0), omega (arith, c .before .before .before .before .started .ensures .1, c .before .before .before .before .before .before .before .before .before .read-up .ensures .0), omega (arith, c .before .before .before .before .before .before .before .before .buf2 .given, c .before .before .before .before .before .before .before .before .before .before .before .before .before .before .before .before .before .large-buffer .ensures))
+play-into-requires c κs =
+    let start = c .before .before .before .before .before .before .before .before .before .before .before .before .before .before .before .before .before .before .before .before .before .before .before in
+    let run = c .before .before .before .before .started in
+    let refused : State → Type 0 = λ (s : State).
+    worldRefusal (start .args .device) (worldOf s (start .args .cells .now) (start .args .identification .now) (start .args .latch .now)) ≡ 0 in (
+      subst refused (sym (run .ensures .0)) (start .pre),
+      omega (arith, run .ensures .1, c .before .before .before .before .before .before .before .before .before .before .before .read-up .ensures .0),
+      omega (arith, c .before .before .before .before .before .before .before .before .before .before .buf2 .given, c .before .before .before .before .before .before .before .before .before .before .before .before .before .before .before .large-buffer .ensures),
+    )
 
 replace-requires : tie.Need-replace-requires
 replace-requires c κs = search needs
 
 tell-requires : tie.Need-tell-requires
-tell-requires c κs = fine-status (c .before .before .before .before .before .before .before .before .before .before .before .before .before .before .before .before .before .before .before .before .before .before .before .before .before .before .before .before .before .before .before .before .before .before .before .before .args .device) _ (c .before .before .before .before .before .before .before .before .before .before .before .play-into .ensures)
+tell-requires c κs = fine-status (c .before .before .before .before .before .before .before .before .before .before .before .before .before .before .before .before .before .before .before .before .before .before .before .before .before .before .before .before .before .before .before .before .before .before .before .args .device) _ (c .before .before .before .before .before .before .before .before .before .before .before .play-into .ensures)
 
 same-length : tie.Need-same-length
 same-length c = search needs
@@ -104,10 +112,6 @@ play-loaded-spec =
     tie.close
     (tie.spec
     large-buffer-requires
-    slice-aggregate-name-beside
-    name-beside-requires
-    array-share-prefix-name
-    slice-aggregate-beside
     open-read-requires
     slice-aggregate-fail
     fail-requires
@@ -117,9 +121,13 @@ play-loaded-spec =
     slice-aggregate-fail-2
     fail-requires-2
     returns-2
-    create-requires
-    tell-unmade-requires
+    open-overwrite-requires
+    slice-aggregate-fail-3
+    fail-requires-3
     returns-3
+    array-share-prefix-buf
+    slice-aggregate-tell-kind-16
+    tell-kind-16-requires
     started-requires
     slice-aggregate-play-into
     play-into-requires
