@@ -13,9 +13,10 @@
  * that threads may use it as long as none lends a buffer that another writes to.
  *
  * Any numbers, any lengths and any contents get a defined answer; a call that is refused says why by its number, and beside each call
- * stands what it then leaves. What no library can see is the caller's part: a pointer is never NULL and has as many readable bytes as
- * its length says (writable ones where it is not const), also where the length is 0; a pointer to a size_t is one; and what a call may
- * write to, the size_t's included, overlaps nothing else that is lent to that call.
+ * stands what it then leaves. What no library can see is the caller's part: behind a pointer stand as many bytes as its length says, to be
+ * read, and to be written to where it is not const; a pointer to a size_t leads to one and is never NULL; and what a call may write to, the
+ * size_t's included, overlaps nothing else that is lent to that call. Where a length is 0 nothing stands behind the pointer: it may be
+ * NULL, as an empty std::vector's is, and the call then gives what it gives for a buffer of no bytes.
  */
 #ifndef M95_H
 #define M95_H
@@ -39,18 +40,18 @@ extern "C" {
  */
 enum {
     M95_DONE = 0,
-    M95_NO_DEVICE = 1,       /* the device is not 1 to 4 */
-    M95_CELLS = 2,           /* cells of a wrong length */
-    M95_IDENTIFICATION = 3,  /* identification page of a wrong length */
-    M95_LATCH = 4,           /* latch of a wrong length */
-    M95_STATE = 5,           /* the state's bytes are no state or not a sound one, or a mark of the latch is neither 0 nor 1 */
-    M95_CUT = 6,             /* a record is cut short */
-    M95_KIND = 7,            /* a record's, or an event's, kind is unknown */
-    M95_LENGTH = 8,          /* a record's length is not its kind's */
-    M95_PIN = 9,             /* a pin byte is above 9 */
-    M95_ANSWERS = 10,        /* no answer byte is left */
-    M95_POWER = 11,          /* power during a write cycle */
-    M95_ADDRESS = 13         /* an address past the cells */
+    M95_REFUSED_DEVICE = 1,         /* the device is not 1 to 4 */
+    M95_REFUSED_CELLS = 2,          /* cells of a wrong length */
+    M95_REFUSED_IDENTIFICATION = 3, /* identification page of a wrong length */
+    M95_REFUSED_LATCH = 4,          /* latch of a wrong length */
+    M95_REFUSED_STATE = 5,          /* the state's bytes are no state or not a sound one, or a mark of the latch is neither 0 nor 1 */
+    M95_REFUSED_CUT = 6,            /* a record is cut short */
+    M95_REFUSED_KIND = 7,           /* a record's, or an event's, kind is unknown */
+    M95_REFUSED_LENGTH = 8,         /* a record's length is not its kind's */
+    M95_REFUSED_PIN = 9,            /* a pin byte is above 9 */
+    M95_REFUSED_ANSWERS = 10,       /* no answer byte is left */
+    M95_REFUSED_POWER = 11,         /* power during a write cycle */
+    M95_REFUSED_ADDRESS = 13        /* an address past the cells */
 };
 
 /* Kinds of events, as of the records of a trace; beside each, what its value is. */

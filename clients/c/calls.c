@@ -16,6 +16,8 @@ static void sizes(void) {
 
 /* 1 to 5 in their order: each fault alone, and with all that come after it. */
 static void refused_buffers(void) {
+    static const size_t refusals[] = {
+        M95_DONE, M95_REFUSED_DEVICE, M95_REFUSED_CELLS, M95_REFUSED_IDENTIFICATION, M95_REFUSED_LATCH, M95_REFUSED_STATE};
     prepare(2);
     /* Bytes that no preparing would leave, so that one which is refused and fills the buffers all the same is seen. */
     chip.cells[3] = chip.identification[5] = 0x5A;
@@ -31,7 +33,7 @@ static void refused_buffers(void) {
             uint8_t answers[1] = {7};
             size_t cells = 16384 - wrong[2], page = 64 + wrong[3], latch = 128 - wrong[4], state = M95_STATE_BYTES - wrong[5];
 #define WRONG chip.state, state, chip.cells, cells, chip.identification, page, chip.latch, latch
-            expect(m95_refusal(device, WRONG) == number, "refusal", number);
+            expect(m95_refusal(device, WRONG) == number && refusals[number] == number, "refusal", number);
             expect(m95_event(device, WRONG, 9, 99, &answer) == number && answer == M95_Z, "a refused event", number);
             expect(m95_run(device, WRONG, (const uint8_t *)"", 1, answers, 1, 1, &taken, &done) == number, "a refused trace", number);
             expect(taken == 0 && done == 0 && answers[0] == 7, "a refused trace does nothing", number);
@@ -42,16 +44,67 @@ static void refused_buffers(void) {
         }
     }
     chip.latch[64] = 2;
-    expect(m95_refusal(2, LENT) == M95_STATE, "a mark that is neither 0 nor 1", 2);
+    expect(m95_refusal(2, LENT) == M95_REFUSED_STATE, "a mark that is neither 0 nor 1", 2);
     memset(&chip.state, 0, sizeof chip.state);
     chip.latch[64] = 0;
     note();
-    expect(m95_prepare(7, LENT) == M95_NO_DEVICE, "preparing no device", 7);
+    expect(m95_prepare(7, LENT) == M95_REFUSED_DEVICE, "preparing no device", 7);
     memset(before.state, 0, sizeof before.state);
     expect(memcmp(chip.state, before.state, sizeof chip.state) != 0, "the state of refused preparing", 7);
     memcpy(before.state, chip.state, sizeof chip.state);
     expect(is_as_before(), "the other buffers of refused preparing", 7);
     expect(m95_refusal(2, LENT) == M95_DONE, "refused preparing gives a prepared state", 7);
+}
+
+/*
+ * NULL with a length of 0 for each pointer that goes with a length, one at a time and then for all: a call gives what it gives for a
+ * buffer of no bytes. The places: state, cells, identification, latch, trace, answers.
+ */
+enum { NULLS = 6 };
+
+static void null_buffers(size_t device) {
+    static const size_t numbers[] = {M95_REFUSED_STATE, M95_REFUSED_CELLS, M95_REFUSED_IDENTIFICATION, M95_REFUSED_LATCH,
+                                     M95_DONE,          M95_REFUSED_ANSWERS, M95_REFUSED_CELLS};
+    static const uint8_t record[] = {3, 0, M95_SET_PIN, 0, M95_S};
+    uint8_t answers[1] = {7};
+    prepare(device);
+    chip.cells[3] = chip.identification[5] = chip.latch[7] = 0x5A;
+    note();
+    for (size_t none = 0; none <= NULLS; none++) {
+#define GIVEN(place, pointer, length) none == place || none == NULLS ? NULL : (pointer), none == place || none == NULLS ? 0 : (length)
+#define NOT_ALL                                                                                   \
+    GIVEN(0, chip.state, sizeof chip.state), GIVEN(1, chip.cells, m95_cells(device)),             \
+        GIVEN(2, chip.identification, m95_page(device)), GIVEN(3, chip.latch, 2 * m95_page(device))
+        size_t number = none == 4 || none == 5 ? M95_DONE : numbers[none], answer = 9, taken = 9, done = 9;
+        expect(m95_refusal(device, NOT_ALL) == number, "refusal with NULL", none);
+        expect(m95_event(device, NOT_ALL, M95_WAIT, 0, &answer) == number && answer == M95_Z, "an event with NULL", none);
+        expect(m95_run(device, NOT_ALL, GIVEN(4, record, sizeof record), GIVEN(5, answers, 1), 1, &taken, &done) == numbers[none],
+               "a trace with NULL", none);
+        expect(taken == 0 && done == 0 && answers[0] == 7, "a trace with NULL does nothing", none);
+        if (number != M95_DONE) {
+            expect(m95_prepare(device, NOT_ALL) == number, "preparing with NULL", none);
+        }
+        expect(is_as_before(), "NULL leaves the others as they were", none);
+    }
+}
+
+/* The calls that take one buffer, and every call for no device with nothing at all. */
+static void nulls(void) {
+    size_t answer = 9, first = 9, second = 9;
+    for (size_t device = 1; device <= 4; device++) {
+        null_buffers(device);
+        expect(m95_cell_page(device, NULL, 0, 0, &first, &second) == M95_REFUSED_CELLS, "cell page of NULL", device);
+        expect(first == 0 && second == 0, "no part of it", device);
+        second = 9;
+        expect(m95_identification_page(device, NULL, 0, &second) == M95_REFUSED_IDENTIFICATION && second == 0, "page of NULL", device);
+    }
+    expect(m95_status_byte(NULL, 0, &answer) == M95_REFUSED_STATE && answer == 0, "status of NULL", answer);
+#define NOTHING NULL, 0, NULL, 0, NULL, 0, NULL, 0
+    expect(m95_refusal(0, NOTHING) == M95_REFUSED_DEVICE && m95_prepare(0, NOTHING) == M95_REFUSED_DEVICE, "no device, no buffers", 0);
+    expect(m95_event(0, NOTHING, M95_WAIT, 0, &answer) == M95_REFUSED_DEVICE && answer == M95_Z, "an event of nothing", answer);
+    expect(m95_run(0, NOTHING, NULL, 0, NULL, 0, 1, &first, &second) == M95_REFUSED_DEVICE, "a trace of nothing", 0);
+    expect(m95_cell_page(0, NULL, 0, 0, &first, &second) == M95_REFUSED_DEVICE, "a cell page of nothing", 0);
+    expect(m95_identification_page(0, NULL, 0, &second) == M95_REFUSED_DEVICE, "an identification page of nothing", 0);
 }
 
 /* Every value of every byte of a state, and many states of chance: a state or 5, and then nothing changes. */
@@ -73,9 +126,9 @@ static void any_bytes(void) {
         note();
         size_t refusal = m95_refusal(1, LENT), answer;
         expect(refusal == m95_event(1, LENT, M95_WAIT, 1, &answer), "an event is refused as its buffers are", i);
-        expect(refusal == M95_DONE || (refusal == M95_STATE && is_as_before()), "bytes that are no state get 5", i);
+        expect(refusal == M95_DONE || (refusal == M95_REFUSED_STATE && is_as_before()), "bytes that are no state get 5", i);
         states += refusal == M95_DONE;
-        others += refusal == M95_STATE;
+        others += refusal == M95_REFUSED_STATE;
     }
     expect(states > 0 && others > 0, "some bytes are a state and some are none", states);
 }
@@ -188,16 +241,16 @@ static void events(void) {
     size_t answer = 9;
     prepare(2);
     note();
-    expect(m95_event(2, LENT, 0, 0, &answer) == M95_KIND && answer == M95_Z, "event of kind 0", 0);
-    expect(m95_event(2, LENT, 4, 0, &answer) == M95_KIND, "event of kind 4", 4);
-    expect(m95_event(2, LENT, (size_t)1 << 32 | 1, 0, &answer) == M95_KIND, "event of a large kind", 1);
-    expect(m95_event(2, LENT, M95_SET_PIN, 10, &answer) == M95_PIN, "pin byte 10", 10);
-    expect(m95_event(2, LENT, M95_SET_PIN, 256, &answer) == M95_PIN, "pin byte 256", 256);
+    expect(m95_event(2, LENT, 0, 0, &answer) == M95_REFUSED_KIND && answer == M95_Z, "event of kind 0", 0);
+    expect(m95_event(2, LENT, 4, 0, &answer) == M95_REFUSED_KIND, "event of kind 4", 4);
+    expect(m95_event(2, LENT, (size_t)1 << 32 | 1, 0, &answer) == M95_REFUSED_KIND, "event of a large kind", 1);
+    expect(m95_event(2, LENT, M95_SET_PIN, 10, &answer) == M95_REFUSED_PIN, "pin byte 10", 10);
+    expect(m95_event(2, LENT, M95_SET_PIN, 256, &answer) == M95_REFUSED_PIN, "pin byte 256", 256);
     expect(is_as_before(), "refused events change nothing", 0);
     COMMAND(0x06);
     COMMAND(0x01, 0x8C);
     note();
-    expect(m95_event(2, LENT, M95_POWER_CYCLE, 0, &answer) == M95_POWER && is_as_before(), "power in a cycle", 11);
+    expect(m95_event(2, LENT, M95_POWER_CYCLE, 0, &answer) == M95_REFUSED_POWER && is_as_before(), "power in a cycle", 11);
     event(M95_WAIT, 5000);
     expect(m95_event(2, LENT, M95_POWER_CYCLE, 77, &answer) == M95_DONE && status() == 0x8C, "power after it", status());
 }
@@ -221,16 +274,16 @@ static void traces(void) {
     RUN(8, 9, 0, 10, 2, 3, 0, 1, 0, 4, 3, 0, 1, 0, 5);
     RUN(8, 1, 0, 5, 1, 3, 0, 1, 0, 4, 3, 0, 1, 0, 5);
     RUN(8, 0, 0, 0, 0, 3, 0, 1, 0, 4);
-    RUN(8, 9, M95_CUT, 5, 1, 3, 0, 1, 0, 5, 3, 0, 1);
-    RUN(8, 9, M95_CUT, 5, 1, 3, 0, 1, 0, 5, 6, 0, 2, 0, 1, 2, 3);
-    RUN(8, 9, M95_KIND, 5, 1, 3, 0, 1, 0, 5, 3, 0, 4, 0, 5);
-    RUN(8, 9, M95_LENGTH, 5, 1, 3, 0, 1, 0, 5, 2, 0, 1, 0, 5);
-    RUN(8, 9, M95_PIN, 5, 1, 3, 0, 1, 0, 5, 3, 0, 1, 0, 10);
-    RUN(1, 9, M95_ANSWERS, 5, 1, 3, 0, 1, 0, 5, 2, 0, 3, 0);
+    RUN(8, 9, M95_REFUSED_CUT, 5, 1, 3, 0, 1, 0, 5, 3, 0, 1);
+    RUN(8, 9, M95_REFUSED_CUT, 5, 1, 3, 0, 1, 0, 5, 6, 0, 2, 0, 1, 2, 3);
+    RUN(8, 9, M95_REFUSED_KIND, 5, 1, 3, 0, 1, 0, 5, 3, 0, 4, 0, 5);
+    RUN(8, 9, M95_REFUSED_LENGTH, 5, 1, 3, 0, 1, 0, 5, 2, 0, 1, 0, 5);
+    RUN(8, 9, M95_REFUSED_PIN, 5, 1, 3, 0, 1, 0, 5, 3, 0, 1, 0, 10);
+    RUN(1, 9, M95_REFUSED_ANSWERS, 5, 1, 3, 0, 1, 0, 5, 2, 0, 3, 0);
     RUN(8, 9, 0, 12, 2, 6, 0, 2, 0, 1, 2, 3, 4, 2, 0, 3, 0);
     COMMAND(0x06);
     COMMAND(0x01, 0x00);
-    RUN(8, 9, M95_POWER, 5, 1, 3, 0, 1, 0, 5, 2, 0, 3, 0);
+    RUN(8, 9, M95_REFUSED_POWER, 5, 1, 3, 0, 1, 0, 5, 2, 0, 3, 0);
 }
 
 static void pages(void) {
@@ -239,30 +292,31 @@ static void pages(void) {
     expect(start == 32 && length == 16, "where it is", start);
     expect(m95_cell_page(4, chip.cells, MOST_CELLS, MOST_CELLS - 1, &start, &length) == M95_DONE, "the last cell page", 4);
     expect(start == MOST_CELLS - MOST_PAGE && length == MOST_PAGE, "where it is", start);
-    expect(m95_cell_page(1, chip.cells, 512, 512, &start, &length) == M95_ADDRESS, "past the cells", 512);
+    expect(m95_cell_page(1, chip.cells, 512, 512, &start, &length) == M95_REFUSED_ADDRESS, "past the cells", 512);
     expect(start == 0 && length == 0, "no part of them", start);
-    expect(m95_cell_page(1, chip.cells, 511, 512, &start, &length) == M95_CELLS, "a cell page of wrong cells", 511);
-    expect(m95_cell_page(9, chip.cells, 511, 512, &start, &length) == M95_NO_DEVICE, "a cell page of no device", 9);
+    expect(m95_cell_page(1, chip.cells, 511, 512, &start, &length) == M95_REFUSED_CELLS, "a cell page of wrong cells", 511);
+    expect(m95_cell_page(9, chip.cells, 511, 512, &start, &length) == M95_REFUSED_DEVICE, "a cell page of no device", 9);
     expect(m95_identification_page(1, chip.identification, 16, &length) == M95_DONE, "the identification page", 16);
     expect(length == 16, "its length", length);
-    expect(m95_identification_page(1, chip.identification, 17, &length) == M95_IDENTIFICATION, "one of a wrong length", 17);
+    expect(m95_identification_page(1, chip.identification, 17, &length) == M95_REFUSED_IDENTIFICATION, "one of a wrong length", 17);
     expect(length == 0, "no part of it", length);
-    expect(m95_identification_page(5, chip.identification, 17, &length) == M95_NO_DEVICE, "one of no device", 5);
+    expect(m95_identification_page(5, chip.identification, 17, &length) == M95_REFUSED_DEVICE, "one of no device", 5);
 }
 
 static void statuses(void) {
     size_t byte = 9;
-    expect(m95_status_byte(chip.state, M95_STATE_BYTES - 1, &byte) == M95_STATE, "status of a short state", 35);
+    expect(m95_status_byte(chip.state, M95_STATE_BYTES - 1, &byte) == M95_REFUSED_STATE, "status of a short state", 35);
     expect(byte == 0, "which is 0", byte);
     memset(chip.state, 0xFF, sizeof chip.state);
     byte = 9;
-    expect(m95_status_byte(chip.state, sizeof chip.state, &byte) == M95_STATE, "status of no state", 36);
+    expect(m95_status_byte(chip.state, sizeof chip.state, &byte) == M95_REFUSED_STATE, "status of no state", 36);
     expect(byte == 0, "which is 0", byte);
 }
 
 int main(void) {
     sizes();
     refused_buffers();
+    nulls();
     any_bytes();
     examples();
     write_protect();

@@ -17,27 +17,36 @@ enum way {
     PAGE_JUDGED_BEFORE_CELLS,
     NO_STATE_TAKEN,
     LARGE_NUMBER_TAKEN,
+    NULL_STATE_TAKEN,
     PREPARES_WITHOUT_ROOM_FOR_A_STATE,
     NO_ROOM_FOR_A_STATE_TAKEN,
     REFUSED_PREPARING_GIVES_NO_STATE,
     REFUSED_PREPARING_CHANGES_CELLS,
+    NULL_LATCH_PREPARED,
     REFUSED_EVENT_ANSWERS_0,
     KIND_REFUSED_AS_PIN,
     PIN_TEN_TAKEN,
     REFUSED_EVENT_CHANGES_THE_LATCH,
     POWER_TAKEN_IN_A_CYCLE,
+    EVENT_ON_NULL_CELLS_TAKEN,
     LIMIT_ONE_MORE,
     REFUSED_TRACE_DID_ONE,
     REFUSED_TRACE_ANSWERS,
     SHORT_RECORD_TAKEN,
+    NULL_TRACE_TAKEN_AS_CUT,
+    NULL_ANSWERS_TAKEN,
+    NULL_PAGE_JUDGED_BEFORE_NULL_CELLS,
     STATUS_OF_NO_STATE,
     STATUS_WITHOUT_WEL,
+    STATUS_OF_NULL,
     PAGE_STARTS_ONE_LATER,
     PAST_THE_CELLS_AS_WRONG_LENGTH,
     REFUSED_PAGE_SHOWN,
+    CELL_PAGE_OF_NULL,
     IDENTIFICATION_PAGE_ONE_SHORT,
     IDENTIFICATION_LENGTH_AS_CELLS,
     REFUSED_IDENTIFICATION_SHOWN,
+    IDENTIFICATION_PAGE_OF_NULL,
     WAYS
 };
 
@@ -86,11 +95,14 @@ size_t __wrap_m95_page(size_t device) {
 }
 
 size_t __wrap_m95_refusal(size_t device, ONLY_READ) {
-    size_t number = __real_m95_refusal(way() == LARGE_NUMBER_TAKEN ? device & 255 : device, BUFFERS);
-    if (way() == PAGE_JUDGED_BEFORE_CELLS && number == 2 && identification_length != __real_m95_page(device)) {
-        return 3;
+    if (way() == NULL_STATE_TAKEN && state == NULL) {
+        return M95_DONE;
     }
-    return way() == NO_STATE_TAKEN && number == 5 ? 0 : number;
+    size_t number = __real_m95_refusal(way() == LARGE_NUMBER_TAKEN ? device & 255 : device, BUFFERS);
+    if (way() == PAGE_JUDGED_BEFORE_CELLS && number == M95_REFUSED_CELLS && identification_length != __real_m95_page(device)) {
+        return M95_REFUSED_IDENTIFICATION;
+    }
+    return way() == NO_STATE_TAKEN && number == M95_REFUSED_STATE ? M95_DONE : number;
 }
 
 size_t __wrap_m95_prepare(size_t device, WRITTEN) {
@@ -98,68 +110,95 @@ size_t __wrap_m95_prepare(size_t device, WRITTEN) {
         memset(cells, 0xFF, cells_length);
     }
     size_t number = __real_m95_prepare(device, BUFFERS);
-    if (way() == REFUSED_PREPARING_GIVES_NO_STATE && 1 <= number && number <= 4) {
+    if (way() == REFUSED_PREPARING_GIVES_NO_STATE && M95_REFUSED_DEVICE <= number && number <= M95_REFUSED_LATCH) {
         memset(state, 0, state_length);
     }
-    if (way() == REFUSED_PREPARING_CHANGES_CELLS && number == 1) {
+    if (way() == REFUSED_PREPARING_CHANGES_CELLS && number == M95_REFUSED_DEVICE) {
         cells[0] ^= 1;
     }
-    return way() == NO_ROOM_FOR_A_STATE_TAKEN && number == 5 ? 0 : number;
+    if (way() == NULL_LATCH_PREPARED && latch == NULL) {
+        return M95_DONE;
+    }
+    return way() == NO_ROOM_FOR_A_STATE_TAKEN && number == M95_REFUSED_STATE ? M95_DONE : number;
 }
 
 size_t __wrap_m95_event(size_t device, WRITTEN, size_t kind, size_t value, size_t *answer) {
     size_t number = __real_m95_event(device, BUFFERS, kind, value, answer);
-    if (way() == REFUSED_EVENT_ANSWERS_0 && number != 0) {
+    if (way() == REFUSED_EVENT_ANSWERS_0 && number != M95_DONE) {
         *answer = 0;
     }
-    if (way() == REFUSED_EVENT_CHANGES_THE_LATCH && number >= 7) {
+    if (way() == REFUSED_EVENT_CHANGES_THE_LATCH && number >= M95_REFUSED_KIND) {
         latch[0] ^= 1;
     }
-    if (way() == KIND_REFUSED_AS_PIN && number == 7) {
-        return 9;
+    if (way() == KIND_REFUSED_AS_PIN && number == M95_REFUSED_KIND) {
+        return M95_REFUSED_PIN;
     }
-    return (way() == PIN_TEN_TAKEN && number == 9) || (way() == POWER_TAKEN_IN_A_CYCLE && number == 11) ? 0 : number;
+    if (way() == PIN_TEN_TAKEN && number == M95_REFUSED_PIN) {
+        return M95_DONE;
+    }
+    if (way() == EVENT_ON_NULL_CELLS_TAKEN && cells == NULL) {
+        return M95_DONE;
+    }
+    return way() == POWER_TAKEN_IN_A_CYCLE && number == M95_REFUSED_POWER ? M95_DONE : number;
 }
 
 size_t __wrap_m95_run(size_t device, WRITTEN, const uint8_t *trace, size_t trace_length, uint8_t *answers, size_t answers_length, size_t limit,
                       size_t *taken, size_t *done) {
     size_t most = way() == LIMIT_ONE_MORE ? limit + 1 : limit;
     size_t number = __real_m95_run(device, BUFFERS, trace, trace_length, answers, answers_length, most, taken, done);
-    if (way() == REFUSED_TRACE_DID_ONE && 1 <= number && number <= 5) {
+    if (way() == REFUSED_TRACE_DID_ONE && M95_REFUSED_DEVICE <= number && number <= M95_REFUSED_STATE) {
         *done = 1;
     }
-    if (way() == REFUSED_TRACE_ANSWERS && 1 <= number && number <= 5 && answers_length > 0) {
+    if (way() == REFUSED_TRACE_ANSWERS && M95_REFUSED_DEVICE <= number && number <= M95_REFUSED_STATE && answers_length > 0) {
         answers[0] = M95_Z;
     }
-    return way() == SHORT_RECORD_TAKEN && number == 6 ? 0 : number;
+    if (way() == NULL_TRACE_TAKEN_AS_CUT && trace == NULL) {
+        return M95_REFUSED_CUT;
+    }
+    if (way() == NULL_ANSWERS_TAKEN && answers == NULL) {
+        return M95_DONE;
+    }
+    if (way() == NULL_PAGE_JUDGED_BEFORE_NULL_CELLS && cells == NULL && identification == NULL) {
+        return M95_REFUSED_IDENTIFICATION;
+    }
+    return way() == SHORT_RECORD_TAKEN && number == M95_REFUSED_CUT ? M95_DONE : number;
 }
 
 size_t __wrap_m95_status_byte(const uint8_t *state, size_t state_length, size_t *status) {
     size_t number = __real_m95_status_byte(state, state_length, status);
-    if (way() == STATUS_WITHOUT_WEL && number == 0) {
+    if (way() == STATUS_WITHOUT_WEL && number == M95_DONE) {
         *status &= ~(size_t)2;
     }
-    return way() == STATUS_OF_NO_STATE && number == 5 ? 0 : number;
+    if (way() == STATUS_OF_NULL && state == NULL) {
+        return M95_DONE;
+    }
+    return way() == STATUS_OF_NO_STATE && number == M95_REFUSED_STATE ? M95_DONE : number;
 }
 
 size_t __wrap_m95_cell_page(size_t device, const uint8_t *cells, size_t cells_length, size_t address, size_t *start, size_t *length) {
     size_t number = __real_m95_cell_page(device, cells, cells_length, address, start, length);
-    if (way() == PAGE_STARTS_ONE_LATER && number == 0) {
+    if (way() == PAGE_STARTS_ONE_LATER && number == M95_DONE) {
         *start += 1;
     }
-    if (way() == REFUSED_PAGE_SHOWN && number != 0) {
+    if (way() == REFUSED_PAGE_SHOWN && number != M95_DONE) {
         *length = 1;
     }
-    return way() == PAST_THE_CELLS_AS_WRONG_LENGTH && number == 13 ? 2 : number;
+    if (way() == CELL_PAGE_OF_NULL && cells == NULL) {
+        return M95_DONE;
+    }
+    return way() == PAST_THE_CELLS_AS_WRONG_LENGTH && number == M95_REFUSED_ADDRESS ? M95_REFUSED_CELLS : number;
 }
 
 size_t __wrap_m95_identification_page(size_t device, const uint8_t *identification, size_t identification_length, size_t *length) {
     size_t number = __real_m95_identification_page(device, identification, identification_length, length);
-    if (way() == IDENTIFICATION_PAGE_ONE_SHORT && number == 0) {
+    if (way() == IDENTIFICATION_PAGE_ONE_SHORT && number == M95_DONE) {
         *length -= 1;
     }
-    if (way() == REFUSED_IDENTIFICATION_SHOWN && number != 0) {
+    if (way() == REFUSED_IDENTIFICATION_SHOWN && number != M95_DONE) {
         *length = 1;
     }
-    return way() == IDENTIFICATION_LENGTH_AS_CELLS && number == 3 ? 2 : number;
+    if (way() == IDENTIFICATION_PAGE_OF_NULL && identification == NULL) {
+        return M95_DONE;
+    }
+    return way() == IDENTIFICATION_LENGTH_AS_CELLS && number == M95_REFUSED_IDENTIFICATION ? M95_REFUSED_CELLS : number;
 }

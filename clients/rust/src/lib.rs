@@ -4,6 +4,34 @@
 /// The bytes of a state.
 pub const STATE_BYTES: usize = 36;
 
+/// The numbers that calls give back, but for 0, which says that all is well.
+pub mod refused {
+    /// The device is not 1 to 4.
+    pub const DEVICE: usize = 1;
+    /// Cells of a wrong length.
+    pub const CELLS: usize = 2;
+    /// Identification page of a wrong length.
+    pub const IDENTIFICATION: usize = 3;
+    /// Latch of a wrong length.
+    pub const LATCH: usize = 4;
+    /// The state's bytes are no state or not a sound one, or a mark of the latch is neither 0 nor 1.
+    pub const STATE: usize = 5;
+    /// A record is cut short.
+    pub const CUT: usize = 6;
+    /// A record's, or an event's, kind is unknown.
+    pub const KIND: usize = 7;
+    /// A record's length is not its kind's.
+    pub const LENGTH: usize = 8;
+    /// A pin byte is above 9.
+    pub const PIN: usize = 9;
+    /// No answer byte is left.
+    pub const ANSWERS: usize = 10;
+    /// Power during a write cycle.
+    pub const POWER: usize = 11;
+    /// An address past the cells.
+    pub const ADDRESS: usize = 13;
+}
+
 /// Kinds of events; what the value of each is stands beside it.
 pub mod kind {
     /// The pin plus 0 for low or 1 for high.

@@ -2,8 +2,8 @@
 //! of lent buffers, the pages, and states of any bytes. Nothing is expected of either but what the other says.
 
 use m95_model::generate::{events, trace_with_tail, Profile, Random, TAILS};
-use m95_model::{Device, Event, Output, State, DEVICES};
-use proved::{kind, pin, Lent, STATE_BYTES};
+use m95_model::{Device, Event, Number, Output, State, DEVICES};
+use proved::{kind, pin, refused, Lent, STATE_BYTES};
 
 /// A device's buffers, for one of the two.
 #[derive(Clone, PartialEq)]
@@ -65,6 +65,26 @@ fn sizes_are_the_models() {
     }
     for device in [0, 5, 255, 256, 257, 260, usize::MAX] {
         assert_eq!((proved::cells(device), proved::page(device)), (0, 0));
+    }
+}
+
+#[test]
+fn refusals_have_the_models_numbers() {
+    for (ours, model) in [
+        (refused::DEVICE, Number::Device),
+        (refused::CELLS, Number::Cells),
+        (refused::IDENTIFICATION, Number::Identification),
+        (refused::LATCH, Number::Latch),
+        (refused::STATE, Number::State),
+        (refused::CUT, Number::Cut),
+        (refused::KIND, Number::Kind),
+        (refused::LENGTH, Number::Length),
+        (refused::PIN, Number::Pin),
+        (refused::ANSWERS, Number::Answers),
+        (refused::POWER, Number::Power),
+        (refused::ADDRESS, Number::Address),
+    ] {
+        assert_eq!(ours, model as usize);
     }
 }
 
@@ -187,13 +207,13 @@ fn kinds_and_values_that_are_no_event() {
     for kind in [0, 4, 16, 256, 257, usize::MAX] {
         assert_eq!(
             proved::event(2, &mut ours.lent(), kind, 0),
-            (7, Output::Z as usize)
+            (refused::KIND, Output::Z as usize)
         );
     }
     for value in [10, 255, 256, 1 << 32, usize::MAX] {
         assert_eq!(
             proved::event(2, &mut ours.lent(), kind::SET_PIN, value),
-            (9, Output::Z as usize)
+            (refused::PIN, Output::Z as usize)
         );
     }
     assert!(ours == before);
@@ -221,7 +241,7 @@ fn lengths_of_lent_buffers() {
                         };
                         let before = buffers.clone();
                         let expected = match number as usize {
-                            0 if room != STATE_BYTES => 5,
+                            0 if room != STATE_BYTES => refused::STATE,
                             number => number,
                         };
                         assert_eq!(proved::prepare(device, &mut buffers.lent()), expected);
@@ -255,7 +275,7 @@ fn states_of_any_bytes() {
                 sound += 1;
                 assert_eq!(proved::refusal(3, &buffers.lent()), 0);
             }
-            5 => assert!(buffers == before),
+            refused::STATE => assert!(buffers == before),
             other => panic!("{other} for bytes of a state"),
         }
     }
@@ -286,11 +306,20 @@ fn pages_are_the_models() {
             };
             assert_eq!(proved::cell_page(device, &cells, address), expected);
         }
-        assert_eq!(proved::cell_page(device, &cells[1..], row.cells), Err(2));
-        assert_eq!(proved::cell_page(device + 256, &cells, 0), Err(1));
+        assert_eq!(
+            proved::cell_page(device, &cells[1..], row.cells),
+            Err(refused::CELLS)
+        );
+        assert_eq!(
+            proved::cell_page(device + 256, &cells, 0),
+            Err(refused::DEVICE)
+        );
         let page = &cells[..row.page];
         assert_eq!(proved::identification_page(device, page), Ok(page));
-        assert_eq!(proved::identification_page(device, &cells), Err(3));
-        assert_eq!(proved::identification_page(0, page), Err(1));
+        assert_eq!(
+            proved::identification_page(device, &cells),
+            Err(refused::IDENTIFICATION)
+        );
+        assert_eq!(proved::identification_page(0, page), Err(refused::DEVICE));
     }
 }
