@@ -1,0 +1,122 @@
+// The header in C++: each device on std::vector buffers of its own sizes, with a byte written and read back, and the calls on vectors of no
+// bytes, whose pointer is NULL in most libraries. Prints what does not hold, and a last line.
+#include <cstdio>
+#include <vector>
+
+#include "m95.h"
+
+namespace {
+
+using Bytes = std::vector<uint8_t>;
+
+std::size_t failed = 0;
+
+void expect(bool holds, const char *what, std::size_t device) {
+    if (!holds) {
+        failed++;
+        std::printf("buffers: does not hold: %s (device %zu)\n", what, device);
+    }
+}
+
+struct Chip {
+    std::size_t device;
+    Bytes state, cells, identification, latch;
+
+    explicit Chip(std::size_t number)
+        : device(number), state(M95_STATE_BYTES), cells(m95_cells(number)), identification(m95_page(number)), latch(2 * m95_page(number)) {}
+
+    std::size_t refusal() const {
+        return m95_refusal(device, state.data(), state.size(), cells.data(), cells.size(), identification.data(), identification.size(),
+                           latch.data(), latch.size());
+    }
+
+    std::size_t prepare() {
+        return m95_prepare(device, state.data(), state.size(), cells.data(), cells.size(), identification.data(), identification.size(),
+                           latch.data(), latch.size());
+    }
+
+    std::size_t run(const Bytes &trace, Bytes &answers, std::size_t &done) {
+        std::size_t taken = 0;
+        return m95_run(device, state.data(), state.size(), cells.data(), cells.size(), identification.data(), identification.size(),
+                       latch.data(), latch.size(), trace.data(), trace.size(), answers.data(), answers.size(), SIZE_MAX, &taken, &done);
+    }
+};
+
+void put_pin(Bytes &trace, int pin) {
+    const uint8_t record[] = {3, 0, M95_SET_PIN, 0, static_cast<uint8_t>(pin)};
+    trace.insert(trace.end(), record, record + sizeof record);
+}
+
+// A selection that sends bytes, and then clocks so many more out.
+void put_command(Bytes &trace, const Bytes &bytes, std::size_t more) {
+    put_pin(trace, M95_S);
+    for (std::size_t i = 0; i < 8 * (bytes.size() + more); i++) {
+        const int level = i / 8 < bytes.size() ? bytes[i / 8] >> (7 - i % 8) & 1 : 0;
+        put_pin(trace, M95_D + level);
+        put_pin(trace, M95_C + 1);
+        put_pin(trace, M95_C);
+    }
+    put_pin(trace, M95_S + 1);
+}
+
+// A code, and an address of 0 in the device's address bytes, of which devices 3 and 4 have three.
+Bytes at_zero(std::size_t device, uint8_t code) {
+    Bytes bytes(1 + (device < 3 ? device : 3), 0);
+    bytes[0] = code;
+    return bytes;
+}
+
+// WREN, WRITE of A5h to cell 0, a wait, and READ of it.
+void write_and_read(Chip &chip) {
+    Bytes trace, write = at_zero(chip.device, 0x02);
+    write.push_back(0xA5);
+    put_command(trace, Bytes{0x06}, 0);
+    put_command(trace, write, 0);
+    const uint8_t wait[] = {6, 0, M95_WAIT, 0, 0x88, 0x13, 0, 0}; // 5000 microseconds
+    trace.insert(trace.end(), wait, wait + sizeof wait);
+    put_command(trace, at_zero(chip.device, 0x03), 1);
+    Bytes answers(trace.size() / 4);
+    std::size_t done = 0, read = 0;
+    expect(chip.run(trace, answers, done) == M95_DONE, "a trace is run", chip.device);
+    for (std::size_t k = 0; k < 8; k++) { // bit 7 comes with the fall that ends the address; the last fall shows a bit of the next cell
+        read = read << 1 | answers[done - 2 - 3 * (8 - k)];
+    }
+    expect(read == 0xA5 && chip.cells[0] == 0xA5, "the byte is stored and read", chip.device);
+}
+
+// Vectors of no bytes, one at a time and then all of them.
+void lend_nothing(const Chip &good) {
+    const std::size_t numbers[] = {M95_REFUSED_STATE, M95_REFUSED_CELLS, M95_REFUSED_IDENTIFICATION, M95_REFUSED_LATCH, M95_REFUSED_CELLS};
+    for (std::size_t none = 0; none <= 4; none++) {
+        Chip chip = good;
+        Bytes *const buffers[] = {&chip.state, &chip.cells, &chip.identification, &chip.latch};
+        for (std::size_t k = 0; k < 4; k++) {
+            if (none == k || none == 4) {
+                *buffers[k] = Bytes();
+            }
+        }
+        expect(chip.refusal() == numbers[none] && chip.prepare() == numbers[none], "an empty vector is refused", chip.device);
+    }
+}
+
+void traces_of_nothing(Chip &chip) {
+    Bytes trace, answers;
+    std::size_t done = 9;
+    expect(chip.run(trace, answers, done) == M95_DONE && done == 0, "an empty trace is done", chip.device);
+    put_pin(trace, M95_S);
+    expect(chip.run(trace, answers, done) == M95_REFUSED_ANSWERS && done == 0, "no room for answers", chip.device);
+}
+
+} // namespace
+
+int main() {
+    for (std::size_t device = 1; device <= 4; device++) {
+        Chip chip(device);
+        expect(chip.prepare() == M95_DONE && chip.refusal() == M95_DONE, "a device is prepared", device);
+        write_and_read(chip);
+        traces_of_nothing(chip);
+        lend_nothing(chip);
+    }
+    std::printf("buffers: %zu expectations do not hold\n", failed);
+    return failed == 0 ? 0 : 1;
+}
