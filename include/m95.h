@@ -9,8 +9,8 @@
  *     identification  m95_page(device) bytes
  *     latch           twice m95_page(device) bytes
  *
- * They may be copied, and saved and lent again later to the same version of the library. It keeps nothing of its own between calls, so
- * that threads may use it as long as none lends a buffer that another writes to.
+ * They may be copied, and saved and lent again later to a library of the same version (m95_version). It keeps nothing of its own between
+ * calls, so that threads may use it as long as none lends a buffer that another writes to.
  *
  * Any numbers, any lengths and any contents get a defined answer; a call that is refused says why by its number, and beside each call
  * stands what it then leaves. What no library can see is the caller's part: behind a pointer stand as many bytes as its length says, to be
@@ -33,6 +33,9 @@ extern "C" {
 #endif
 
 #define M95_STATE_BYTES 36
+
+/* The version of this header, which m95_version gives for the library that is linked. */
+#define M95_VERSION 1
 
 /*
  * The numbers that calls give back. 1 to 5 are judged in this order; then for each record 6 for its first four bytes, 7, 8, 6 for the
@@ -66,6 +69,12 @@ enum { M95_C = 0, M95_D = 2, M95_S = 4, M95_HOLD = 6, M95_W = 8 };
 /* How an event or a record answers: the level of Q. */
 enum { M95_LOW = 0, M95_HIGH = 1, M95_Z = 2 };
 
+/*
+ * A number that changes when the bytes of a state change their meaning. A state saved under another number must not be lent: its bytes may
+ * pass for a state that it was not. So a host that saves states keeps this number beside them and compares it before it lends one.
+ */
+size_t m95_version(void);
+
 /* The cells of a device and the bytes of a page of it; 0 for a number that is no device's. */
 size_t m95_cells(size_t device);
 size_t m95_page(size_t device);
@@ -86,6 +95,17 @@ size_t m95_prepare(size_t device,
                    uint8_t *cells, size_t cells_length,
                    uint8_t *identification, size_t identification_length,
                    uint8_t *latch, size_t latch_length);
+
+/*
+ * Puts the state of a device that has just got its power and has stored this before: status bits, as the status register has them, which
+ * are 3 and 2, and 7 where there is SRWD; and the lock, 0 or 1. All else is as m95_prepare leaves it: the pins, nothing selected, WEL 0 and
+ * no cycle. 1; then 5 where the state's room is not M95_STATE_BYTES long, where the status has any other bit set, or where the lock is any
+ * other number; or 0. Refused, it leaves the room as it was.
+ *
+ * A host takes up a chip that it saved by m95_prepare, then its image into the cells and the identification page, then m95_load. The latch
+ * has nothing to be saved for a chip without power; its marks must be 0 or 1, as m95_prepare leaves them.
+ */
+size_t m95_load(size_t device, uint8_t *state, size_t state_length, size_t status, size_t lock);
 
 /* One event: 1 to 5, then 7 and 9, then 11, or 0. A refused event answers M95_Z and changes nothing else. */
 size_t m95_event(size_t device,
@@ -115,6 +135,13 @@ size_t m95_run(size_t device,
  * state that m95_refusal gives 5 for, the status may be above 255.
  */
 size_t m95_status_byte(const uint8_t *state, size_t state_length, size_t *status);
+
+/*
+ * Puts the status bits that a state has stored into `status`, and its lock, 0 or 1, into `lock`: 0, or 5 and both 0 for bytes that are no
+ * state. They are what m95_load takes; while a cycle of WRSR or LID runs, they are still the old ones. Soundness is not judged: of a state
+ * that m95_refusal gives 5 for, the status may have bits that the device has not.
+ */
+size_t m95_stored(const uint8_t *state, size_t state_length, size_t *status, size_t *lock);
 
 /* The page of cells that holds an address, by its start in `cells` and its length: 1, 2, 13 (start and length 0), or 0. */
 size_t m95_cell_page(size_t device, const uint8_t *cells, size_t cells_length, size_t address, size_t *start, size_t *length);

@@ -3,6 +3,7 @@
  * examples that a caller can see, and buffers that a refused call must leave. Prints each expectation that fails, and a last line.
  */
 #include "chip.h"
+#include "saved.h"
 
 static void sizes(void) {
     static const size_t cells[] = {0, 512, 16384, 131072, 262144, 0};
@@ -97,10 +98,14 @@ static void nulls(void) {
         expect(first == 0 && second == 0, "no part of it", device);
         second = 9;
         expect(m95_identification_page(device, NULL, 0, &second) == M95_REFUSED_IDENTIFICATION && second == 0, "page of NULL", device);
+        expect(m95_load(device, NULL, 0, 0, 0) == M95_REFUSED_STATE, "loading into NULL", device);
     }
     expect(m95_status_byte(NULL, 0, &answer) == M95_REFUSED_STATE && answer == 0, "status of NULL", answer);
+    first = second = 9;
+    expect(m95_stored(NULL, 0, &first, &second) == M95_REFUSED_STATE && first == 0 && second == 0, "stored by NULL", first);
 #define NOTHING NULL, 0, NULL, 0, NULL, 0, NULL, 0
     expect(m95_refusal(0, NOTHING) == M95_REFUSED_DEVICE && m95_prepare(0, NOTHING) == M95_REFUSED_DEVICE, "no device, no buffers", 0);
+    expect(m95_load(0, NULL, 0, 0, 0) == M95_REFUSED_DEVICE, "loading no device into NULL", 0);
     expect(m95_event(0, NOTHING, M95_WAIT, 0, &answer) == M95_REFUSED_DEVICE && answer == M95_Z, "an event of nothing", answer);
     expect(m95_run(0, NOTHING, NULL, 0, NULL, 0, 1, &first, &second) == M95_REFUSED_DEVICE, "a trace of nothing", 0);
     expect(m95_cell_page(0, NULL, 0, 0, &first, &second) == M95_REFUSED_DEVICE, "a cell page of nothing", 0);
@@ -171,14 +176,7 @@ static void examples(void) {
     COMMAND(0x06);
     COMMAND(0x82, 0x00, 0x04, 0x00, 0x02);
     event(M95_WAIT, 5000);
-    set_pin(M95_S, 0);
-    bits(0x830004, 24);
-    bits(0x00, 7);
-    size_t lock = bit(0);
-    for (int k = 0; k < 7; k++) {
-        lock = lock << 1 | bit(0);
-    }
-    expect(lock == 0x01, "example 11", lock);
+    expect(lock_status() == 0x01, "example 11", lock_status());
 }
 
 /* Example 12: W low keeps WRSR from being done, and WEL stays. */
@@ -326,6 +324,11 @@ int main(void) {
     traces();
     pages();
     statuses();
+    versions();
+    loading();
+    loading_rooms();
+    loaded();
+    storing();
     if (failed == 0) {
         printf("calls: all %zu expectations hold\n", held);
         return 0;

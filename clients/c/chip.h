@@ -99,4 +99,17 @@ static size_t status(void) {
     return byte;
 }
 
+/* What RDLS sends on device 4. */
+static size_t lock_status(void) {
+    set_pin(M95_S, 0);
+    bits(0x830004, 24);
+    bits(0x00, 7);
+    size_t sent = bit(0);
+    for (int k = 0; k < 7; k++) {
+        sent = sent << 1 | bit(0);
+    }
+    set_pin(M95_S, 1);
+    return sent;
+}
+
 #endif

@@ -47,6 +47,30 @@ enum way {
     IDENTIFICATION_LENGTH_AS_CELLS,
     REFUSED_IDENTIFICATION_SHOWN,
     IDENTIFICATION_PAGE_OF_NULL,
+    OTHER_VERSION,
+    LOADS_A_LARGE_NUMBER,
+    LOADS_SRWD_ON_DEVICE_1,
+    LOADS_A_LARGE_STATUS,
+    LOADS_A_LARGE_LOCK,
+    LOADS_LOCK_TWO,
+    LOADS_WITHOUT_THE_LOCK,
+    LOADS_WITHOUT_BP,
+    LOADS_WITH_WEL,
+    LOADS_OVER_WHAT_WAS_THERE,
+    LOADS_INTO_A_LONG_ROOM,
+    LOADS_INTO_NULL,
+    STATUS_JUDGED_BEFORE_DEVICE,
+    REFUSED_LOADING_CHANGES_THE_ROOM,
+    STORED_BY_NO_STATE,
+    STORED_BY_NULL,
+    REFUSED_STORED_SHOWN,
+    REFUSED_LOCK_SHOWN,
+    STORED_WITH_WEL_AND_WIP,
+    STORED_BEFORE_THE_CYCLE_ENDS,
+    LOCK_STORED_BEFORE_THE_CYCLE_ENDS,
+    STORED_WITHOUT_THE_LOCK,
+    STORED_BITS_OF_THE_DEVICE_ALONE,
+    SOUNDNESS_JUDGED_BY_STORED,
     WAYS
 };
 
@@ -69,16 +93,21 @@ static enum way way(void) {
 #define WRITTEN TAKEN()
 #define ONLY_READ TAKEN(const)
 
+size_t __real_m95_version(void);
 size_t __real_m95_cells(size_t device);
 size_t __real_m95_page(size_t device);
 size_t __real_m95_refusal(size_t device, ONLY_READ);
 size_t __real_m95_prepare(size_t device, WRITTEN);
+size_t __real_m95_load(size_t device, uint8_t *state, size_t state_length, size_t status, size_t lock);
 size_t __real_m95_event(size_t device, WRITTEN, size_t kind, size_t value, size_t *answer);
 size_t __real_m95_run(size_t device, WRITTEN, const uint8_t *trace, size_t trace_length, uint8_t *answers, size_t answers_length, size_t limit,
                       size_t *taken, size_t *done);
 size_t __real_m95_status_byte(const uint8_t *state, size_t state_length, size_t *status);
+size_t __real_m95_stored(const uint8_t *state, size_t state_length, size_t *status, size_t *lock);
 size_t __real_m95_cell_page(size_t device, const uint8_t *cells, size_t cells_length, size_t address, size_t *start, size_t *length);
 size_t __real_m95_identification_page(size_t device, const uint8_t *identification, size_t identification_length, size_t *length);
+
+size_t __wrap_m95_version(void) { return __real_m95_version() + (way() == OTHER_VERSION); }
 
 size_t __wrap_m95_cells(size_t device) {
     if (way() == CELLS_OF_NO_DEVICE && device == 5) {
@@ -106,14 +135,14 @@ size_t __wrap_m95_refusal(size_t device, ONLY_READ) {
 }
 
 size_t __wrap_m95_prepare(size_t device, WRITTEN) {
-    if (way() == PREPARES_WITHOUT_ROOM_FOR_A_STATE && state_length != M95_STATE_BYTES) {
+    if (way() == PREPARES_WITHOUT_ROOM_FOR_A_STATE && state_length != M95_STATE_BYTES && cells != NULL) {
         memset(cells, 0xFF, cells_length);
     }
     size_t number = __real_m95_prepare(device, BUFFERS);
-    if (way() == REFUSED_PREPARING_GIVES_NO_STATE && M95_REFUSED_DEVICE <= number && number <= M95_REFUSED_LATCH) {
+    if (way() == REFUSED_PREPARING_GIVES_NO_STATE && M95_REFUSED_DEVICE <= number && number <= M95_REFUSED_LATCH && state != NULL) {
         memset(state, 0, state_length);
     }
-    if (way() == REFUSED_PREPARING_CHANGES_CELLS && number == M95_REFUSED_DEVICE) {
+    if (way() == REFUSED_PREPARING_CHANGES_CELLS && number == M95_REFUSED_DEVICE && cells != NULL) {
         cells[0] ^= 1;
     }
     if (way() == NULL_LATCH_PREPARED && latch == NULL) {
@@ -201,4 +230,97 @@ size_t __wrap_m95_identification_page(size_t device, const uint8_t *identificati
         return M95_DONE;
     }
     return way() == IDENTIFICATION_LENGTH_AS_CELLS && number == M95_REFUSED_IDENTIFICATION ? M95_REFUSED_CELLS : number;
+}
+
+/* Loads with a status or a lock that is made to fit where a way takes what is to be refused. */
+static size_t load_fitting(size_t device, uint8_t *state, size_t state_length, size_t status, size_t lock) {
+    if (way() == LOADS_SRWD_ON_DEVICE_1 && device == 1) {
+        status &= ~(size_t)0x80;
+    }
+    if (way() == LOADS_A_LARGE_STATUS) {
+        status &= 255;
+    }
+    if (way() == LOADS_A_LARGE_LOCK) {
+        lock &= 255;
+    }
+    if (way() == LOADS_LOCK_TWO && lock == 2) {
+        lock = 1;
+    }
+    if (way() == LOADS_INTO_A_LONG_ROOM && state_length > M95_STATE_BYTES) {
+        state_length = M95_STATE_BYTES;
+    }
+    return __real_m95_load(way() == LOADS_A_LARGE_NUMBER ? device & 255 : device, state, state_length, status, lock);
+}
+
+/* A loaded state made wrong: the lock, the status, WEL and the last byte stand where version 1 has them. */
+static void spoil_loaded(uint8_t *state, const uint8_t *before) {
+    if (way() == LOADS_WITHOUT_THE_LOCK) {
+        state[22] = 0;
+    }
+    if (way() == LOADS_WITHOUT_BP) {
+        state[31] &= 0x80;
+    }
+    if (way() == LOADS_WITH_WEL) {
+        state[21] = 1;
+    }
+    if (way() == LOADS_OVER_WHAT_WAS_THERE) {
+        state[29] = before[29];
+    }
+}
+
+size_t __wrap_m95_load(size_t device, uint8_t *state, size_t state_length, size_t status, size_t lock) {
+    uint8_t before[M95_STATE_BYTES] = {0};
+    if (state_length == sizeof before) {
+        memcpy(before, state, sizeof before);
+    }
+    size_t number = load_fitting(device, state, state_length, status, lock);
+    if (number == M95_DONE) {
+        spoil_loaded(state, before);
+    }
+    if (way() == REFUSED_LOADING_CHANGES_THE_ROOM && number != M95_DONE && state_length > 0) {
+        state[0] ^= 1;
+    }
+    if (way() == STATUS_JUDGED_BEFORE_DEVICE && number == M95_REFUSED_DEVICE && status > 0x8C) {
+        return M95_REFUSED_STATE;
+    }
+    return way() == LOADS_INTO_NULL && state == NULL ? M95_DONE : number;
+}
+
+/* What a state has stored, told wrong; what a cycle will store, and which cycle runs, stand where version 1 has them. */
+static void spoil_stored(const uint8_t *state, size_t *status, size_t *lock) {
+    if (way() == STORED_WITH_WEL_AND_WIP) {
+        __real_m95_status_byte(state, M95_STATE_BYTES, status);
+    }
+    if (way() == STORED_BEFORE_THE_CYCLE_ENDS && state[25] == 3) {
+        *status = state[32];
+    }
+    if (way() == LOCK_STORED_BEFORE_THE_CYCLE_ENDS && state[25] == 4) {
+        *lock = 1;
+    }
+    if (way() == STORED_WITHOUT_THE_LOCK) {
+        *lock = 0;
+    }
+    if (way() == STORED_BITS_OF_THE_DEVICE_ALONE) {
+        *status &= 0x8C;
+    }
+}
+
+size_t __wrap_m95_stored(const uint8_t *state, size_t state_length, size_t *status, size_t *lock) {
+    size_t number = __real_m95_stored(state, state_length, status, lock);
+    if (number == M95_DONE) {
+        spoil_stored(state, status, lock);
+    }
+    if (way() == REFUSED_STORED_SHOWN && number != M95_DONE) {
+        *status = 0x8C;
+    }
+    if (way() == REFUSED_LOCK_SHOWN && number != M95_DONE) {
+        *lock = 1;
+    }
+    if (way() == SOUNDNESS_JUDGED_BY_STORED && number == M95_DONE && (*status & 0x73) != 0) {
+        return M95_REFUSED_STATE;
+    }
+    if (way() == STORED_BY_NULL && state == NULL) {
+        return M95_DONE;
+    }
+    return way() == STORED_BY_NO_STATE && number == M95_REFUSED_STATE ? M95_DONE : number;
 }

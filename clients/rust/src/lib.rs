@@ -4,6 +4,9 @@
 /// The bytes of a state.
 pub const STATE_BYTES: usize = 36;
 
+/// The version of this wrapper, which `version` gives for the library that is linked.
+pub const VERSION: usize = 1;
+
 /// The numbers that calls give back, but for 0, which says that all is well.
 pub mod refused {
     /// The device is not 1 to 4.
@@ -53,6 +56,7 @@ pub mod pin {
 
 mod c {
     extern "C" {
+        pub fn m95_version() -> usize;
         pub fn m95_cells(device: usize) -> usize;
         pub fn m95_page(device: usize) -> usize;
         pub fn m95_refusal(
@@ -76,6 +80,13 @@ mod c {
             identification_length: usize,
             latch: *mut u8,
             latch_length: usize,
+        ) -> usize;
+        pub fn m95_load(
+            device: usize,
+            state: *mut u8,
+            state_length: usize,
+            status: usize,
+            lock: usize,
         ) -> usize;
         pub fn m95_event(
             device: usize,
@@ -110,6 +121,12 @@ mod c {
             done: *mut usize,
         ) -> usize;
         pub fn m95_status_byte(state: *const u8, state_length: usize, status: *mut usize) -> usize;
+        pub fn m95_stored(
+            state: *const u8,
+            state_length: usize,
+            status: *mut usize,
+            lock: *mut usize,
+        ) -> usize;
         pub fn m95_cell_page(
             device: usize,
             cells: *const u8,
@@ -162,6 +179,12 @@ pub struct Ran {
     pub done: usize,
 }
 
+/// A number that changes when the bytes of a state change their meaning: states saved under another one must not be lent.
+pub fn version() -> usize {
+    // SAFETY: it gives a number only.
+    unsafe { c::m95_version() }
+}
+
 /// The cells of a device; 0 for a number that is no device's.
 pub fn cells(device: usize) -> usize {
     // SAFETY: it takes and gives numbers only.
@@ -186,6 +209,14 @@ pub fn refusal(device: usize, lent: &Lent) -> usize {
 pub fn prepare(device: usize, lent: &mut Lent) -> usize {
     // SAFETY: each pointer is a slice's, with the slice's length, and the slices are lent for writing, so that none overlap.
     unsafe { lend!(m95_prepare, as_mut_ptr, device, lent) }
+}
+
+/// Puts the state of a device that has just got its power, with the status bits and the lock that it has stored: 1; 5 for a room of a
+/// wrong length, bits that the device has not, or a lock that is neither 0 nor 1; or 0. Refused, it leaves the room as it was.
+#[must_use]
+pub fn load(device: usize, state: &mut [u8], status: usize, lock: usize) -> usize {
+    // SAFETY: the pointer is a slice's, with the slice's length, and the slice is lent for writing.
+    unsafe { c::m95_load(device, state.as_mut_ptr(), state.len(), status, lock) }
 }
 
 /// One event, by its kind and its value: its number, and how it answers (0, 1, or 2 for Z).
@@ -240,6 +271,16 @@ pub fn status_byte(state: &[u8]) -> Result<usize, usize> {
     // SAFETY: the pointer is a slice's, with the slice's length; the status is a local number.
     match unsafe { c::m95_status_byte(state.as_ptr(), state.len(), &mut status) } {
         0 => Ok(status),
+        number => Err(number),
+    }
+}
+
+/// The status bits and the lock, 0 or 1, that a state has stored, or the number 5 for bytes that are no state. Soundness is not judged.
+pub fn stored(state: &[u8]) -> Result<(usize, usize), usize> {
+    let (mut status, mut lock) = (0, 0);
+    // SAFETY: the pointer is a slice's, with the slice's length; status and lock are local numbers.
+    match unsafe { c::m95_stored(state.as_ptr(), state.len(), &mut status, &mut lock) } {
+        0 => Ok((status, lock)),
         number => Err(number),
     }
 }

@@ -90,15 +90,26 @@ fn refusals_have_the_models_numbers() {
 
 /// Runs a trace in pieces of at most `limit` records through both, with room for `room` answers in all.
 fn run_both(device: usize, trace: &[u8], limit: usize, room: usize) {
-    let (mut ours, mut model, mut state) = prepared(device);
+    run_from(device, prepared(device), trace, limit, room);
+}
+
+/// The same from where both stand.
+fn run_from(
+    device: usize,
+    from: (Buffers, Buffers, State),
+    trace: &[u8],
+    limit: usize,
+    room: usize,
+) {
+    let (mut ours, mut model, mut state) = from;
     let (mut answers, mut others) = (vec![7; room], vec![7; room]);
-    let (mut at, mut from) = (0, 0);
+    let (mut at, mut answered) = (0, 0);
     loop {
         let ran = proved::run(
             device,
             &mut ours.lent(),
             &trace[at..],
-            &mut answers[from..],
+            &mut answers[answered..],
             limit,
         );
         let other = m95_model::run(
@@ -108,20 +119,27 @@ fn run_both(device: usize, trace: &[u8], limit: usize, room: usize) {
             &mut model.identification,
             &mut model.latch,
             &trace[at..],
-            &mut others[from..],
+            &mut others[answered..],
             limit,
         );
         let told = (other.number as usize, other.taken, other.done);
         assert_eq!((ran.number, ran.taken, ran.done), told);
         assert!(ours.stored() == model.stored() && answers == others);
-        let status = m95_model::status_byte(&state);
-        assert_eq!(proved::status_byte(&ours.state), Ok(usize::from(status)));
+        tells_the_same(&ours.state, &state);
         at += ran.taken;
-        from += ran.done;
+        answered += ran.done;
         if ran.number != 0 || at == trace.len() || ran.done == 0 {
             return;
         }
     }
+}
+
+/// What can be asked of a state, asked of both.
+fn tells_the_same(ours: &[u8], model: &State) {
+    let status = m95_model::status_byte(model);
+    assert_eq!(proved::status_byte(ours), Ok(status.into()));
+    let (bits, lock) = m95_model::stored(model);
+    assert_eq!(proved::stored(ours), Ok((bits.into(), lock.into())));
 }
 
 #[test]
@@ -147,6 +165,90 @@ fn every_tail() {
             run_both(usize::from(row.number), &trace, usize::MAX, trace.len());
         }
     }
+}
+
+/// Both loaded with these status bits and this lock, and with the same bytes of chance in cells and identification page.
+fn loaded(device: usize, status: u8, lock: u8, random: &mut Random) -> (Buffers, Buffers, State) {
+    let (mut ours, mut model, _) = prepared(device);
+    ours.cells.fill_with(|| random.below(256) as u8);
+    ours.identification.fill_with(|| random.below(256) as u8);
+    model.cells.clone_from(&ours.cells);
+    model.identification.clone_from(&ours.identification);
+    let (status, lock) = (status.into(), lock.into());
+    assert_eq!(proved::load(device, &mut ours.state, status, lock), 0);
+    let (number, state) = m95_model::load(device as u8, status as u8, lock as u8);
+    assert_eq!(number, Number::Done);
+    (ours, model, state)
+}
+
+/// Traces on chips that were loaded with every set of status bits that the device has, locked and not.
+#[test]
+fn traces_of_loaded_chips() {
+    let mut random = Random::new(3);
+    for row in &DEVICES {
+        for bits in (0..=255).filter(|bits| bits & !row.status_bits() == 0) {
+            for lock in 0..=1 {
+                let device = usize::from(row.number);
+                let from = loaded(device, bits, lock, &mut random);
+                let trace = trace_with_tail(
+                    Profile::Mixed,
+                    row,
+                    u64::from(bits),
+                    5_000,
+                    bits as usize % TAILS,
+                );
+                run_from(device, from, &trace, 1_000, trace.len());
+            }
+        }
+    }
+}
+
+/// Every status of a byte and some locks, on every device and on numbers that are none; and what is above a byte.
+#[test]
+fn loading_is_the_models() {
+    for device in [0, 1, 2, 3, 4, 5, 255] {
+        for status in 0..=255 {
+            for lock in [0, 1, 2, 255] {
+                let (number, model) = m95_model::load(device, status, lock);
+                let mut state = [0xA5; STATE_BYTES];
+                let (device, status, lock) = (device.into(), status.into(), lock.into());
+                assert_eq!(
+                    proved::load(device, &mut state, status, lock),
+                    number as usize
+                );
+                if number == Number::Done {
+                    tells_the_same(&state, &model);
+                } else {
+                    assert!(state == [0xA5; STATE_BYTES]);
+                }
+            }
+        }
+        for (status, lock) in [(256, 0), (0, 256), (usize::MAX, 1), (4, 1 << 32 | 1)] {
+            let (number, _) = m95_model::load(device, 0xFF, 2);
+            let mut state = [0xA5; STATE_BYTES];
+            let refusal = proved::load(device.into(), &mut state, status, lock);
+            assert_eq!(refusal, number as usize);
+            assert!(state == [0xA5; STATE_BYTES]);
+        }
+    }
+}
+
+/// A room that is not as long as a state: 1 for no device, then 5, and the room stays.
+#[test]
+fn loading_into_other_rooms() {
+    for length in (0..=2 * STATE_BYTES).filter(|&length| length != STATE_BYTES) {
+        let mut room = vec![0xA5; length];
+        assert_eq!(proved::load(2, &mut room, 0, 0), refused::STATE);
+        assert_eq!(proved::load(2, &mut room, 0xFF, 2), refused::STATE);
+        assert_eq!(proved::load(6, &mut room, 0xFF, 2), refused::DEVICE);
+        assert!(room.iter().all(|&byte| byte == 0xA5));
+        assert_eq!(proved::stored(&room), Err(refused::STATE));
+    }
+}
+
+#[test]
+fn versions_are_one() {
+    assert_eq!(proved::version(), proved::VERSION);
 }
 
 /// An event as its kind and its value.
@@ -268,6 +370,8 @@ fn states_of_any_bytes() {
         }
         let before = buffers.clone();
         let refusal = proved::refusal(3, &buffers.lent());
+        let is_state = proved::status_byte(&buffers.state).is_ok();
+        assert_eq!(proved::stored(&buffers.state).is_ok(), is_state);
         let (number, _) = proved::event(3, &mut buffers.lent(), kind::WAIT, 1);
         assert_eq!(number, refusal);
         match refusal {
