@@ -1,0 +1,79 @@
+/*
+ * host DEVICE STATUS LOCK IMAGE TRACE SAVED: a host of the library that keeps a chip's cells in a raw image, as programmers and flashrom
+ * write it. It plays TRACE on the chip of IMAGE and puts the cells into SAVED, a new file. An image of cells has neither status bits nor
+ * lock, so these are words, in hexadecimal, and are told at the end for the next time; nor has it the identification page, which is each
+ * time as it left the factory. Ends with 0, with 1 where the trace was refused at a record, or with 2, and then nothing is saved.
+ */
+#include <errno.h>
+#include <stdio.h>
+#include <stdlib.h>
+#include <string.h>
+
+#include "m95.h"
+
+#define LENT state, sizeof state, cells, m95_cells(device), identification, m95_page(device), latch, 2 * m95_page(device)
+
+static uint8_t state[M95_STATE_BYTES], cells[262144], identification[256], latch[512], piece[65536], answers[sizeof piece / 4];
+
+static int tell(const char *what, const char *why) {
+    fprintf(stderr, "host: %s: %s\n", what, why);
+    return 2;
+}
+
+/* A word as a number. What is none becomes a number that no call takes. */
+static size_t number_of(const char *word, int base) {
+    char *end;
+    size_t number = strtoul(word, &end, base);
+    return end == word || *end != '\0' ? SIZE_MAX : number;
+}
+
+/* The cells of an image, if all of it can be read and has the device's length. */
+static int read_cells(FILE *image, size_t length) {
+    int is_good = fread(cells, 1, length, image) == length && fgetc(image) == EOF && !ferror(image);
+    return fclose(image) == 0 && is_good;
+}
+
+/* Plays a trace of any length in pieces. At the end of a piece a 6 only says that its last record goes on in the next. */
+static size_t play(size_t device, FILE *trace, size_t *records) {
+    size_t left = 0, more, taken, done, number;
+    do {
+        more = fread(piece + left, 1, sizeof piece - left, trace);
+        number = m95_run(device, LENT, piece, left + more, answers, sizeof answers, SIZE_MAX, &taken, &done);
+        *records += done;
+        left += more - taken;
+        memmove(piece, piece + taken, left);
+    } while (more > 0 && (number == M95_DONE || number == M95_REFUSED_CUT));
+    return number;
+}
+
+int main(int count, char **words) {
+    size_t device = count == 7 ? number_of(words[1], 10) : 0, length = m95_cells(device), records = 0, status, stored, lock;
+    if (m95_prepare(device, LENT) != M95_DONE) {
+        return tell("it takes a device, 1 to 4, and five more words", "host DEVICE STATUS LOCK IMAGE TRACE SAVED");
+    }
+    FILE *image = fopen(words[4], "rb");
+    if (image == NULL && errno == ENOENT) {
+        tell(words[4], "there is none, so the chip is as it left the factory");
+    } else if (image == NULL || !read_cells(image, length)) {
+        return tell(words[4], "it cannot be read, or is not as long as the cells of the device");
+    }
+    if (m95_load(device, state, sizeof state, number_of(words[2], 16), number_of(words[3], 16)) != M95_DONE) {
+        return tell(words[2], "the device has not all of these status bits, or the lock is neither 0 nor 1");
+    }
+    FILE *trace = fopen(words[5], "rb");
+    if (trace == NULL) {
+        return tell(words[5], strerror(errno));
+    }
+    size_t number = play(device, trace, &records);
+    if (ferror(trace) || (M95_REFUSED_DEVICE <= number && number <= M95_REFUSED_STATE)) {
+        return tell(words[5], "it could not be played to its end");
+    }
+    FILE *saved = fopen(words[6], "wbx"); /* x: a file that is there already is not written to */
+    if (saved == NULL || fwrite(cells, 1, length, saved) != length || fclose(saved) != 0) {
+        return tell(words[6], strerror(errno));
+    }
+    m95_status_byte(state, sizeof state, &status);
+    m95_stored(state, sizeof state, &stored, &lock);
+    printf("number %zu, records %zu, status %02zX, stored %02zX, lock %zu\n", number, records, status, stored, lock);
+    return number == M95_DONE ? 0 : 1;
+}
