@@ -4,7 +4,7 @@
  * A device is its number: 1 M95040-DF, 2 M95128-D, 3 M95M01, 4 M95M02. Its whole condition stands in four buffers, which the caller
  * owns and lends to each call, each as a pointer and its length in bytes:
  *
- *     state           M95_STATE_BYTES bytes, made by m95_prepare; what they mean is the library's business
+ *     state           M95_STATE_BYTES bytes, made by m95_prepare or m95_load; what they mean is the library's business
  *     cells           m95_cells(device) bytes
  *     identification  m95_page(device) bytes
  *     latch           twice m95_page(device) bytes
@@ -34,7 +34,7 @@ extern "C" {
 
 #define M95_STATE_BYTES 36
 
-/* The version of this header, which m95_version gives for the library that is linked. */
+/* The version that this header was written for; m95_version gives that of the library which is linked. */
 #define M95_VERSION 1
 
 /*
@@ -64,6 +64,7 @@ enum {
     M95_POWER_CYCLE = 3      /* not looked at */
 };
 
+/* The pins, at level low. */
 enum { M95_C = 0, M95_D = 2, M95_S = 4, M95_HOLD = 6, M95_W = 8 };
 
 /* How an event or a record answers: the level of Q. */
@@ -102,8 +103,8 @@ size_t m95_prepare(size_t device,
  * no cycle. 1; then 5 where the state's room is not M95_STATE_BYTES long, where the status has any other bit set, or where the lock is any
  * other number; or 0. Refused, it leaves the room as it was.
  *
- * A host takes up a chip that it saved by m95_prepare, then its image into the cells and the identification page, then m95_load. The latch
- * has nothing to be saved for a chip without power; its marks must be 0 or 1, as m95_prepare leaves them.
+ * To take up a chip that was saved: m95_prepare, then its image into the cells and the identification page, then m95_load. The latch of a
+ * chip without power holds nothing that is worth saving; the one that is lent next must have marks of 0 and 1, as m95_prepare leaves it.
  */
 size_t m95_load(size_t device, uint8_t *state, size_t state_length, size_t status, size_t lock);
 

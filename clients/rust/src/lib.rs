@@ -4,7 +4,7 @@
 /// The bytes of a state.
 pub const STATE_BYTES: usize = 36;
 
-/// The version of this wrapper, which `version` gives for the library that is linked.
+/// The version that this wrapper was written for; `version` gives that of the library which is linked.
 pub const VERSION: usize = 1;
 
 /// The numbers that calls give back, but for 0, which says that all is well.
