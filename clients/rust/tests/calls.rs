@@ -1,7 +1,7 @@
 //! The wrapper's calls beside the second model's: generated traces of every profile whole, in pieces and event by event, the numbers
 //! of lent buffers, the pages, and states of any bytes. Nothing is expected of either but what the other says.
 
-use m95_model::generate::{events, trace_with_tail, Profile, Random, TAILS};
+use m95_model::generate::{events, records_of, trace_with_tail, Profile, Random, TAILS};
 use m95_model::{Device, Event, Number, Output, State, DEVICES};
 use proved::{kind, pin, refused, Lent, STATE_BYTES};
 
@@ -181,6 +181,27 @@ fn loaded(device: usize, status: u8, lock: u8, random: &mut Random) -> (Buffers,
     (ours, model, state)
 }
 
+/// WREN, WRSR of the given bits, and RDSR, with no pin set to the level at which a loaded chip has it. A generated trace sets all pins
+/// first, so that one which was loaded at another level would not show.
+fn trusting_start(status: u8) -> Vec<u8> {
+    let mut events = Vec::new();
+    let mut data = false;
+    for bytes in [&[0x06][..], &[0x01, status], &[0x05, 0x00]] {
+        events.push(Event::Select(false));
+        for place in 0..8 * bytes.len() {
+            let bit = bytes[place / 8] >> (7 - place % 8) & 1 == 1;
+            if bit != data {
+                events.push(Event::Data(bit));
+            }
+            data = bit;
+            events.extend([Event::Clock(true), Event::Clock(false)]);
+        }
+        events.push(Event::Select(true));
+    }
+    events.push(Event::Wait(5_000));
+    records_of(&events)
+}
+
 /// Traces on chips that were loaded with every set of status bits that the device has, locked and not.
 #[test]
 fn traces_of_loaded_chips() {
@@ -190,13 +211,8 @@ fn traces_of_loaded_chips() {
             for lock in 0..=1 {
                 let device = usize::from(row.number);
                 let from = loaded(device, bits, lock, &mut random);
-                let trace = trace_with_tail(
-                    Profile::Mixed,
-                    row,
-                    u64::from(bits),
-                    5_000,
-                    bits as usize % TAILS,
-                );
+                let mut trace = trusting_start(bits);
+                trace.extend(records_of(&events(Profile::Mixed, row, bits.into(), 5_000)));
                 run_from(device, from, &trace, 1_000, trace.len());
             }
         }
