@@ -99,6 +99,17 @@ void lend_nothing(const Chip &good) {
     }
 }
 
+// The calls that take one buffer.
+void lend_one(std::size_t device) {
+    Bytes none;
+    std::size_t first = 9, second = 9;
+    expect(m95_load(device, none.data(), none.size(), 0, 0) == M95_REFUSED_STATE, "no room to load into", device);
+    expect(m95_stored(none.data(), none.size(), &first, &second) == M95_REFUSED_STATE && first + second == 0, "no state stores", device);
+    expect(m95_status_byte(none.data(), none.size(), &first) == M95_REFUSED_STATE && first == 0, "no state has a status", device);
+    expect(m95_cell_page(device, none.data(), none.size(), 0, &first, &second) == M95_REFUSED_CELLS, "no cells have a page", device);
+    expect(m95_identification_page(device, none.data(), none.size(), &first) == M95_REFUSED_IDENTIFICATION, "no page", device);
+}
+
 void traces_of_nothing(Chip &chip) {
     Bytes trace, answers;
     std::size_t done = 9;
@@ -116,6 +127,7 @@ int main() {
         write_and_read(chip);
         traces_of_nothing(chip);
         lend_nothing(chip);
+        lend_one(device);
     }
     std::printf("buffers: %zu expectations do not hold\n", failed);
     return failed == 0 ? 0 : 1;
