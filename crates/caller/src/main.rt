@@ -2,6 +2,7 @@
 // alone, so a caller who knows nothing else can use them.
 
 use rules::Event;
+use rules::Stored;
 
 // Preparing an M95040 gives 0, and a device that is not there 1.
 fn prepares() {
@@ -119,8 +120,24 @@ fn tells_status() {
     check::expect(status == 0);
 }
 
+// What an M95128 has stored is loaded and told again; an M95040 has no bit 7, so that it is refused there with 5.
+fn loads() {
+    let stored = Stored {
+        status: 0x84,
+        lock: 1,
+    };
+    let good = m95::load(2, stored);
+    check::expect(good.number == 0);
+    let told = m95::stored(good.state);
+    check::expect(told.status == 0x84);
+    check::expect(told.lock == 1);
+    let refused = m95::load(1, stored);
+    check::expect(refused.number == 5);
+}
+
 fn main() {
     prepares();
+    loads();
     judges();
     tells_status();
     shows_cell_page();
