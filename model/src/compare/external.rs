@@ -65,10 +65,11 @@ impl Program {
     }
 }
 
-/// Standard output; a program that failed adds how, which then shows as a difference.
+/// Standard output; a program that failed adds how, which then shows as a difference. A status of 1 is no failure: it
+/// says that a record was refused, as the last line does.
 fn text(output: &Output) -> String {
     let mut text = String::from_utf8_lossy(&output.stdout).into_owned();
-    if !output.status.success() {
+    if !matches!(output.status.code(), Some(0 | 1)) {
         text.push_str(&format!("failed with {}: ", output.status));
         text.push_str(&String::from_utf8_lossy(&output.stderr));
     }
