@@ -21,5 +21,6 @@ pub mod Runs
 pub mod Same
 pub mod Selections
 pub mod Soundness
+pub mod Spent
 pub mod Storing
 pub mod Widths

@@ -2,23 +2,26 @@
 use Prim.Native.Nat.{ℕ, zero, suc, _+_, _≤_}
 use mathlib.Core.Path.{_≡_, refl, sym, ap, _∙_, subst}
 use mathlib.Core.Bool.{Bool, true, false, not}
-use mathlib.Core.List.{List}
+use mathlib.Core.List.{List, []}
 use native.Mathlib.Omega.{arith}
 use lib.ListN.{getD}
 use lib.Dec.{eqb, ltb}
 use borrow.Author.Tests.{eq-eqb, ltb-false, eqb-true, not-false}
-use Rattle.rules.specs.World.{Row, Stored, World, Event, if_then_else_, number, worldOf, withState}
+use Rattle.rules.specs.World.{Row, Kind, Level, Pins, Stored, World, Event, if_then_else_, number, worldOf, withState}
 use Rattle.rules.specs.Device.{Widths, isDevice, rowOf, preparedState, prepared}
-use Rattle.rules.specs.Instruction.{busy}
+use Rattle.rules.specs.Instruction.{changes, busy}
 use Rattle.rules.specs.Judge.{storable}
 use Rattle.rules.specs.Event.{react, step, next}
 use Rattle.rules.specs.Sound.{Sound, Lent}
 use Rattle.rules.specs.Call.{worldRefusal, storedIn, poweredWith, Loaded, loadedAs, loadOutcome}
-use Rattle.rules.specs.Selections.{Contents, contents}
+use Rattle.rules.specs.Selections.{contents, sights}
 use Rattle.rules.specs.Loaded as spec
 use Rattle.rules.proofs.Choice.{if-elim, clash}
 use Rattle.rules.proofs.Incident.{prepared-sound}
 use Rattle.rules.proofs.Widths.{of-device}
+use Rattle.rules.proofs.Same.{Same, off, contents-same}
+use Rattle.rules.proofs.Selections.{sights-same}
+use Rattle.rules.proofs.Spent.{Spent, spent, contents-spent, sights-spent}
 use Rattle.rules.proofs.Program.{world-taken, world-facts}
 
 -- What loading takes: a lock of 0 or 1.
@@ -81,14 +84,71 @@ at-rest : (row : Row) (w : World) (x : Stored) → next row Event.Power (withSta
 unfolding next step react
 at-rest row w x = refl
 
-held : (row : Row) (w : World) → busy (w .state) ≡ false → contents (next row Event.Power w) ≡ contents (withState (poweredWith (storedIn (w .state))) w)
-unfolding next step react
-held row w idle =
-    let r = w .state .registers in
-    let shown : Bool → Bool → Contents = λ (running locked : Bool).
-    record { cells = w .cells; identification = w .identification; status = r .status; byte = r .status + 0 + number running; locked = locked } in
-    let done : next row Event.Power w ≡ step row Event.Power w = rw idle refl in
-    ap contents done ∙ ap (λ (b : Bool). shown b (r .locked)) idle ∙ ap (shown false) (sym (lock-again (r .locked)))
+-- A cycle that does not run is none.
+no-cycle : (k : Kind) → changes k .runs ≡ false → k ≡ Kind.None
+no-cycle Kind.None e = refl
+no-cycle Kind.Array e = clash e
+no-cycle Kind.Identification e = clash e
+no-cycle Kind.Status e = clash e
+no-cycle Kind.Lock e = clash e
+
+-- The chip after power and the loaded one: what the last cycle left is spent, and what the last selection left nobody reads.
+module _ {row : Row} (v : Widths row) (w : World) (h : Sound row w) (l : Lent row w) (idle-now : busy (w .state) ≡ false) (rest : w .state .pins ≡ preparedState .pins) where
+  abbrev loaded : World
+  loaded = withState (poweredWith (storedIn (w .state))) w
+
+  none : w .state .cycle .kind ≡ Kind.None
+  none = no-cycle (w .state .cycle .kind) idle-now
+
+  powers : next row Event.Power w ≡ step row Event.Power w
+  unfolding next
+  powers = rw idle-now refl
+
+  -- A chip that is not selected, with what a selection left, at these levels and in this cycle.
+  abbrev rested : ℕ → Pins → Kind → Bool → World
+  rested left pins kind locked =
+      let s = w .state in
+      withState
+      (record {
+        place = record { address = s .place .address; start = 0; left = left };
+        pins = pins;
+        selection = record { selected = false; held = false; seen = s .selection .seen };
+        input = record { bits = 0; value = 0; bytes = 0; last = s .input .last };
+        command = s .command;
+        output = record { sending = s .output .sending; q = Level.Z };
+        registers = record { status = s .registers .status; wel = false; locked = locked };
+        cycle = record { kind = kind; next = 0 };
+        filler = preparedState .filler;
+      }) w
+
+  from-power : Spent (step row Event.Power w) (rested (w .state .place .left) (w .state .pins) (w .state .cycle .kind) (w .state .registers .locked))
+  unfolding step react
+  from-power =
+      spent (step row Event.Power w) 0 0 (preparedState .filler) (λ e. clash (sym e ∙ ap (λ (k : Kind). changes k .cells) none))
+      (λ e. clash (sym e ∙ ap (λ (k : Kind). changes k .status) none))
+
+  settles : rested (w .state .place .left) (w .state .pins) (w .state .cycle .kind) (w .state .registers .locked) ≡ rested 0 (preparedState .pins) Kind.None (eqb (number (w .state .registers .locked)) 1)
+  settles =
+      let r = w .state .registers in
+      ap (λ (n : ℕ). rested n (w .state .pins) (w .state .cycle .kind) (r .locked)) (h .unsettled .cycle .rests idle-now)
+      ∙ ap (λ (p : Pins). rested 0 p (w .state .cycle .kind) (r .locked)) rest
+      ∙ ap (λ (k : Kind). rested 0 (preparedState .pins) k (r .locked)) none
+      ∙ ap (rested 0 (preparedState .pins) Kind.None) (sym (lock-again (r .locked)))
+
+  from-loading : Same row loaded (rested 0 (preparedState .pins) Kind.None (eqb (number (w .state .registers .locked)) 1))
+  from-loading =
+      let s = w .state in
+      off loaded (w .latch) (record { address = 0; seen = false; last = 0; command = preparedState .command; sending = 0 })
+      (record { address = s .place .address; seen = s .selection .seen; last = s .input .last; command = s .command; sending = s .output .sending })
+      refl (λ e. clash (sym e))
+
+  indistinct : Sound row loaded → (later : List Event)
+      → (contents (next row Event.Power w) ≡ contents loaded) × (sights row later (next row Event.Power w) ≡ sights row later loaded)
+  indistinct k later = (
+    ap contents powers ∙ contents-spent from-power ∙ ap contents settles ∙ sym (contents-same from-loading),
+    ap (sights row later) powers ∙ sights-spent row later from-power ∙ ap (sights row later) settles
+        ∙ sym (sights-same v later k (record { cells = l .cells; identification = l .identification; latch = l .latch }) from-loading),
+  )
 
 -- Loading what a world has stored is not refused, and gives the state after power.
 module _ (device : ℕ) (w : World) (z : worldRefusal device w ≡ 0) where
@@ -118,5 +178,8 @@ as-after-power device w z =
           (world-taken device (withState (poweredWith (storedIn (w .state))) w) (facts device w z .0) (powered-sound device w z)
           (record { cells = lent .cells; identification = lent .identification; latch = lent .latch }));
       rests = subst (λ (x : World). next (rowOf device) Event.Power x ≡ x) (sym is) (at-rest (rowOf device) w (storedIn (w .state)));
-      holds = λ idle. subst (λ (x : World). contents (next (rowOf device) Event.Power w) ≡ contents x) (sym is) (held (rowOf device) w idle);
+      powered = λ idle-now rest.
+          let both = indistinct (of-device device) w (facts device w z .1) lent idle-now rest (powered-sound device w z) in
+          let same-as : World → Type 0 = spec.Indistinct device (next (rowOf device) Event.Power w) in
+          subst same-as (sym is) (record { holds = both [] .0; events = λ later. both later .1 });
     }

@@ -146,7 +146,7 @@ module _ {row : Row} (v : Widths row) where
       let r = cut-same (m .0) (m .1) (end-in (d .0 .unsettled) b (d .2)) c in
       (subst₂ (Same row) (sym (after-append row inner (Event.Select true ∷ es) (next row (Event.Select false) w))) (sym (after-append row kept ks t)) (r .0), r .1)
 
-  sights-same : {w t : World} (es : List Event) → Sound row w → Lent row w → Same row w t → sights row es w ≡ sights row es t
+  pub sights-same : {w t : World} (es : List Event) → Sound row w → Lent row w → Same row w t → sights row es w ≡ sights row es t
   sights-same [] k l g = refl
   sights-same {w} (e ∷ es) k l g =
       let n = next-sound e w k l in
