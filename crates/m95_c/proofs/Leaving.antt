@@ -20,7 +20,7 @@ use Rattle.rules.specs.Call.{worldRefusal, prepareOutcome, storedAs, storedIn, 
 use Rattle.rules.proofs.Choice.{if-elim}
 use Rattle.m95.proofs.Calling.{fine}
 use Rattle.m95_c.proofs.Packing.{state-length}
-use Rattle.m95_c.specs.StateBytes.{isState, stateOf, noState, bytesOf, putIn}
+use Rattle.m95_c.specs.StateBytes.{isState, stateOf, noState, bytesOf}
 use Rattle.m95_c.specs.Left.{deviceOf, sizesAs, sizesOf, Buffers, buffersOf, preparedAs, prepareLeft, byteFor, loadedAs, loadLeft, eventRefusal, eventOf, repliedAs, eventLeft, ranAs, runLeft, toldAs, statusLeft, keptAs, storedLeft, placedAs, cellPageLeft, identificationPageLeft}
 
 pub device-small : (n : ℕ) → n ≤ 255 → n ≡ deviceOf n
@@ -36,19 +36,6 @@ module _ (n d : ℕ) (ed : d ≡ deviceOf n) (row : Row) (er : row ≡ rowOf d) 
 
   pub sizes-none : t ≡ false → sizesAs 0 0 ≡ sizesOf n
   sizes-none h = rw (← ed, ← et, h)
-
--- A state put into a room.
-pub put-there : (s : State) (room b : List ℕ) → length room ≡ 36 → b ≡ putIn room s → b ≡ bytesOf s
-unfolding putIn
-put-there s room b h e = e ∙ rw (eq-eqb (length room) 36 h)
-
-pub put-whole : (s : State) (room b : List ℕ) → length room ≡ 36 → b ≡ bytesOf s → b ≡ putIn room s
-unfolding putIn
-put-whole s room b h e = e ∙ rw (eq-eqb (length room) 36 h)
-
-pub put-nowhere : (s : State) (room : List ℕ) → (length room ≡ 36 → ⊥) → room ≡ putIn room s
-unfolding putIn
-put-nowhere s room h = rw (ne-eqb (length room) 36 h)
 
 -- Preparing.
 module _ (n d : ℕ) (ed : d ≡ deviceOf n) (b : Buffers) where
@@ -78,9 +65,9 @@ module _ (n d status lock p q : ℕ) (ed : d ≡ deviceOf n) (ep : p ≡ byteFor
     unfolding loadLeft
     load-roomless h = rw (← ed, ← ep, ← eq, ← eo, z, ne-eqb (length room) 36 h)
 
-    pub load-room : length room ≡ 36 → (b : List ℕ) → b ≡ putIn room s → loadedAs 0 b ≡ loadLeft n room status lock
+    pub load-room : length room ≡ 36 → (b : List ℕ) → b ≡ bytesOf s → loadedAs 0 b ≡ loadLeft n room status lock
     unfolding loadLeft
-    load-room h b eb = rw (← ed, ← ep, ← eq, ← eo, z, eq-eqb (length room) 36 h, put-there s room b h eb)
+    load-room h b eb = rw (← ed, ← ep, ← eq, ← eo, z, eq-eqb (length room) 36 h, eb)
 
 -- An event by its kind and its number.
 module _ (kind value : ℕ) where

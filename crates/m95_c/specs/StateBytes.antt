@@ -125,7 +125,3 @@ otherBytes s =
 
 unfoldable pub bytesOf : State → List ℕ
 bytesOf s = numberBytes (s .place) ++ flagBytes s ++ otherBytes s
-
--- A room with a state put into it: one of another length stays as it is.
-unfoldable pub putIn : List ℕ → State → List ℕ
-putIn room s = if eqb (length room) stateLength then bytesOf s else room

@@ -12,8 +12,8 @@ use reading::state_of;
 use rules::Event;
 use rules::Stored;
 
-pub mod putting;
-pub mod reading;
+mod putting;
+mod reading;
 
 // Which bytes a state is: another number where one of them means something else.
 #[no_mangle]

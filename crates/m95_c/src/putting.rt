@@ -4,7 +4,7 @@ ghost use mathlib.Core.Path.{_≡_};
 ghost use Prim.Native.Nat.{_<_};
 ghost use lib.ListN.{length};
 ghost use Rattle.rules.specs.Trace.{answerByte};
-ghost use Rattle.m95_c.specs.StateBytes.{byteOf, instructionNumber, kindNumber, numberBytes, flagBytes, otherBytes, bytesOf, putIn};
+ghost use Rattle.m95_c.specs.StateBytes.{byteOf, instructionNumber, kindNumber, numberBytes, flagBytes, otherBytes, bytesOf};
 use rules::Instruction;
 use rules::Kind;
 use rules::Level;
@@ -134,21 +134,12 @@ fn put_others(room: &mut [u8], s: State)
     bytes::copy(&others, room);
 }
 
-// Puts a state into a room as long as it.
-fn put_whole(room: &mut [u8], s: State)
+// Puts a state.
+pub fn put_state(room: &mut [u8], s: State)
     requires { ⌜ length (now room) ≡ 36 ⌝ }
     ensures { λ _. ⌜ now (room .exit) ≡ bytesOf s ⌝ }
 {
     put_numbers(&mut room[0..12], s.place);
     put_flags(&mut room[12..23], s);
     put_others(&mut room[23..36], s);
-}
-
-// Puts a state. A room of another length is left as it is.
-pub fn put_state(room: &mut [u8], s: State)
-    ensures { λ _. ⌜ now (room .exit) ≡ putIn (now (room .entry)) s ⌝ }
-{
-    if room.len() == 36 {
-        put_whole(room, s);
-    }
 }

@@ -1,6 +1,6 @@
 -- `m95_c::m95_event` meets its contract.
 use Rattle.m95_c.specs.Left.{buffersOf}
-use Rattle.m95_c.proofs.Leaving.{state-long, put-there, event-whole, event-bad, event-refused, event-done}
+use Rattle.m95_c.proofs.Leaving.{state-long, event-whole, event-bad, event-refused, event-done}
 use borrow.Author.Needs.{needs}
 use Rattle.m95_c.proofs.m95_event.Statement.{statement}
 use Rattle.m95_c.proofs.m95_event.Tie as tie
@@ -69,7 +69,12 @@ returns-3 : tie.Need-returns-3
 returns-3 c = event-refused (c .before .before .before .before .before .before .before .before .before .before .before .before .before .before .before .before .before .before .before .before .before .before .before .before .before .before .before .args .device) (c .before .before .before .before .before .before .before .before .before .before .before .before .before .before .before .before .before .before .before .before .before .before .device-of .result) (c .before .before .before .before .before .before .before .before .before .before .before .before .before .before .before .before .before .before .before .before .before .before .device-of .ensures) (buffersOf (c .before .before .before .before .before .before .before .before .before .before .before .before .before .before .before .before .before .before .before .before .before .before .before .before .before .before .before .args .state .now) (c .before .before .before .before .before .before .before .before .before .before .before .before .before .before .before .before .before .before .before .before .before .before .before .before .before .before .before .args .cells .now) (c .before .before .before .before .before .before .before .before .before .before .before .before .before .before .before .before .before .before .before .before .before .before .before .before .before .before .before .args .identification .now) (c .before .before .before .before .before .before .before .before .before .before .before .before .before .before .before .before .before .before .before .before .before .before .before .before .before .before .before .args .latch .now)) (c .before .before .before .before .before .before .before .before .before .before .before .before .before .before .before .before .before .before .before .before .state-of .result) (c .before .before .before .before .before .before .before .before .before .before .before .before .before .before .before .before .before .before .before .before .state-of .ensures) (c .before .before .before .before .before .before .before .before .before .before .before .before .before .before .before .world-refused .result) (c .before .before .before .before .before .before .before .before .before .before .before .before .before .before .before .world-refused .ensures) (c .before .before .before .before .before .before .before .before .before .before .before .before .before .before .before .before .before .before .before .before .before .before .before .before .before .before .before .args .kind) (c .before .before .before .before .before .before .before .before .before .before .before .before .before .before .before .before .before .before .before .before .before .before .before .before .before .before .before .args .value) (c .before .before .before .before .before .before .before .before .before .before .before .before .before .before .if1 .left) (c .before .before .before .before .before .before .before .before .before .before .before .before .before .before .before .before .before .before .before .event-refused .result) (c .before .before .before .before .before .before .before .before .before .before .before .before .before .before .before .before .before .before .before .event-refused .ensures) (c .before .before .before .before .before .before .before .before .before .before .before .before .before .if2 .left) (c .before .before .before .before .before .before .before .before .before .event-of .result) (c .before .before .before .before .before .before .before .before .before .event-of .ensures) (c .before .before .before .before .before .before .before .before .event .result .number) (c .before .before .before .before .before .before .before .before .event .result .answer) (c .before .before .before .before .before .before .before .before .event .result .state) _ _ _ (c .before .before .before .before .before .before .before .before .event .ensures) (c .if3 .taken)
 
 put-state-requires : tie.Need-put-state-requires
-put-state-requires c κs = search needs
+put-state-requires c κs =
+    let start = c .before .before .before .before .before .before .before .before .before .before .before .before .before .before .before .before .before .before .before .before .before .before .before .before .before .before .before .before .args in
+    let read = c .before .before .before .before .before .before .before .before .before .before .before .before .before .before .before .before .before .before .before .before .before .state-of in
+    let judged = c .before .before .before .before .before .before .before .before .before .before .before .before .before .before .before .before .world-refused in
+    state-long (c .before .before .before .before .before .before .before .before .before .before .before .before .before .before .before .before .before .before .before .before .before .before .before .device-of .result) (read .result) (start .state .now) (start .cells .now) (start .identification .now) (start .latch .now)
+    (judged .result) (read .ensures) (judged .ensures) (c .before .before .before .before .before .before .before .before .before .before .before .before .before .before .before .if1 .left)
 
 same-length-13 : tie.Need-same-length-13
 same-length-13 c = search needs
@@ -94,13 +99,11 @@ returns-4 c =
     let made = c .before .before .before .before .before .before .before .before .before .before .before .before .before .event-of in
     let reply = c .before .before .before .before .before .before .before .before .before .before .before .before .event in
     let put = c .before .before .put-state in
-    let long = state-long (device .result) (read .result) (start .args .state .now) (start .args .cells .now) (start .args .identification .now) (start .args .latch .now)
-    (judged .result) (read .ensures) (judged .ensures) taken in
     event-done (start .args .device) (device .result) (device .ensures)
     (buffersOf (start .args .state .now) (start .args .cells .now) (start .args .identification .now) (start .args .latch .now))
     (read .result) (read .ensures) (judged .result) (judged .ensures) (start .args .kind) (start .args .value) taken (asked .result) (asked .ensures)
     (c .before .before .before .before .before .before .before .before .before .before .before .before .before .before .before .before .before .if2 .left) (made .result) (made .ensures) (reply .result .number) (reply .result .answer) (reply .result .state) _ _ _ (reply .ensures)
-    (c .before .before .before .before .if3 .left) _ (put-there (reply .result .state) (start .args .state .now) _ long (put .ensures))
+    (c .before .before .before .before .if3 .left) _ (put .ensures)
 
 pub m95-event-spec : {M : Type 1} → statement M
 m95-event-spec =

@@ -1,6 +1,6 @@
 -- `m95_c::m95_prepare` meets its contract.
 use Rattle.m95_c.specs.Left.{buffersOf}
-use Rattle.m95_c.proofs.Leaving.{put-there, prepare-roomless, prepare-room}
+use Rattle.m95_c.proofs.Leaving.{prepare-roomless, prepare-room}
 use borrow.Author.Needs.{needs}
 use Rattle.m95_c.proofs.m95_prepare.Statement.{statement}
 use Rattle.m95_c.proofs.m95_prepare.Tie as tie
@@ -53,7 +53,7 @@ returns-2 c =
     let put = c .before .before .put-state in
     prepare-room (start .args .device) (device .result) (device .ensures)
     (buffersOf (start .args .state .now) (start .args .cells .now) (start .args .identification .now) (start .args .latch .now))
-    (ready .result .state) (ready .result .number) _ _ _ _ whole (ready .ensures) (put-there (ready .result .state) (start .args .state .now) _ whole (put .ensures))
+    (ready .result .state) (ready .result .number) _ _ _ _ whole (ready .ensures) (put .ensures)
 
 pub m95-prepare-spec : {M : Type 1} → statement M
 m95-prepare-spec =

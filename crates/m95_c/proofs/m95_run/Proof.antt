@@ -1,6 +1,6 @@
 -- `m95_c::m95_run` meets its contract.
 use Rattle.m95_c.specs.Left.{buffersOf}
-use Rattle.m95_c.proofs.Leaving.{state-long, put-there, run-whole, run-left}
+use Rattle.m95_c.proofs.Leaving.{state-long, run-whole, run-left}
 use borrow.Author.Needs.{needs}
 use Rattle.m95_c.proofs.m95_run.Statement.{statement}
 use Rattle.m95_c.proofs.m95_run.Tie as tie
@@ -33,7 +33,12 @@ run-requires : tie.Need-run-requires
 run-requires c κs = search needs
 
 put-state-requires : tie.Need-put-state-requires
-put-state-requires c κs = search needs
+put-state-requires c κs =
+    let start = c .before .before .before .before .before .before .before .before .before .before .before .before .before .before .before .before .before .before .before .before .before .before .before .before .before .before .before .before .args in
+    let read = c .before .before .before .before .before .before .before .before .before .before .before .before .before .before .before .before .before .before .before .state-of in
+    let judged = c .before .before .before .before .before .before .before .before .before .before .before .before .before .before .before .world-refused in
+    state-long (c .before .before .before .before .before .before .before .before .before .before .before .before .before .before .before .before .before .before .before .before .before .device-of .result) (read .result) (start .state .now) (start .cells .now) (start .identification .now) (start .latch .now)
+    (judged .result) (read .ensures) (judged .ensures) (c .before .before .before .before .before .before .before .before .before .before .before .before .before .before .if1 .left)
 
 same-length-5 : tie.Need-same-length-5
 same-length-5 c = search needs
@@ -59,13 +64,11 @@ returns-2 c =
     let taken = c .before .before .before .before .before .before .before .before .before .before .before .before .before .before .before .before .before .if1 .left in
     let ran = c .before .before .before .before .before .before .before .before .before .before .before .before .run in
     let put = c .before .before .put-state in
-    let long = state-long (device .result) (read .result) (start .args .state .now) (start .args .cells .now) (start .args .identification .now) (start .args .latch .now)
-    (judged .result) (read .ensures) (judged .ensures) taken in
     run-left (start .args .device) (device .result) (device .ensures)
     (buffersOf (start .args .state .now) (start .args .cells .now) (start .args .identification .now) (start .args .latch .now))
     (read .result) (read .ensures) (judged .result) (judged .ensures) (start .args .trace .now) (start .args .answers .now) (start .args .limit) taken
     (ran .result .number) (ran .result .taken) (ran .result .done) (ran .result .state) _ _ _ _ _ (ran .ensures)
-    (put-there (ran .result .state) (start .args .state .now) _ long (put .ensures))
+    (put .ensures)
 
 pub m95-run-spec : {M : Type 1} → statement M
 m95-run-spec =

@@ -1,22 +1,66 @@
 -- `m95_c::putting::put_state` meets its contract.
-use Rattle.m95_c.proofs.Leaving.{put-whole, put-nowhere}
+use Rattle.m95_c.proofs.Packing.{parts-put}
 use borrow.Author.Needs.{needs}
 use Rattle.m95_c.proofs.putting.put_state.Statement.{statement}
 use Rattle.m95_c.proofs.putting.put_state.Tie as tie
 
-put-whole-requires : tie.Need-put-whole-requires
-put-whole-requires c κs = search needs
+sub-put-numbers : tie.Need-sub-put-numbers
+sub-put-numbers c = search needs
+
+part-put-numbers-start : tie.Need-part-put-numbers-start
+part-put-numbers-start c = search needs
+
+part-put-numbers-end : tie.Need-part-put-numbers-end
+part-put-numbers-end c = search needs
+
+put-numbers-requires : tie.Need-put-numbers-requires
+put-numbers-requires c κs = search needs
+
+sub-put-flags : tie.Need-sub-put-flags
+sub-put-flags c = search needs
+
+part-put-flags-start : tie.Need-part-put-flags-start
+part-put-flags-start c = search needs
+
+part-put-flags-end : tie.Need-part-put-flags-end
+part-put-flags-end c = search needs
+
+put-flags-requires : tie.Need-put-flags-requires
+put-flags-requires c κs = search needs
+
+sub-put-others : tie.Need-sub-put-others
+sub-put-others c = search needs
+
+part-put-others-start : tie.Need-part-put-others-start
+part-put-others-start c = search needs
+
+part-put-others-end : tie.Need-part-put-others-end
+part-put-others-end c = search needs
+
+put-others-requires : tie.Need-put-others-requires
+put-others-requires c κs = search needs
 
 same-length : tie.Need-same-length
 same-length c = search needs
 
 returns : tie.Need-returns
-returns c =
-    let start = c .before .before .before .before .before .before in
-    put-whole (start .args .s) (start .args .room .now) _ (c .before .before .before .before .if1 .taken) (c .before .before .put-whole .ensures)
-
-returns-2 : tie.Need-returns-2
-returns-2 c = put-nowhere (c .before .before .args .s) (c .before .before .args .room .now) (c .if1 .left)
+returns c = parts-put (c .before .before .before .before .before .before .before .before .before .before .before .before .before .args .s) (c .before .before .before .before .before .before .before .before .before .before .before .before .before .args .room .now) (c .before .before .before .before .before .before .before .before .before .before .put-numbers .last .0) (c .before .before .before .before .before .before .put-flags .last .0) (c .before .before .put-others .last .0) (c .before .before .before .before .before .before .before .before .before .before .before .before .before .pre) (c .before .before .before .before .before .before .before .before .before .before .put-numbers .ensures) (c .before .before .before .before .before .before .put-flags .ensures) (c .before .before .put-others .ensures)
 
 pub put-state-spec : {M : Type 1} → statement M
-put-state-spec = tie.close (tie.spec put-whole-requires same-length returns returns-2)
+put-state-spec =
+    tie.close
+    (tie.spec
+    sub-put-numbers
+    part-put-numbers-start
+    part-put-numbers-end
+    put-numbers-requires
+    sub-put-flags
+    part-put-flags-start
+    part-put-flags-end
+    put-flags-requires
+    sub-put-others
+    part-put-others-start
+    part-put-others-end
+    put-others-requires
+    same-length
+    returns)
