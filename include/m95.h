@@ -103,6 +103,9 @@ size_t m95_prepare(size_t device,
  * no cycle. 1; then 5 where the state's room is not M95_STATE_BYTES long, where the status has any other bit set, or where the lock is any
  * other number; or 0. Refused, it leaves the room as it was.
  *
+ * Before a chip is saved no cycle should run, which bit 0 of m95_status_byte tells: what the cycle writes is in no buffer before its end,
+ * and a long M95_WAIT ends it.
+ *
  * To take up a chip that was saved: m95_prepare, then its image into the cells and the identification page, then m95_load. The latch of a
  * chip without power holds nothing that is worth saving; the one that is lent next must have marks of 0 and 1, as m95_prepare leaves it.
  */

@@ -3,7 +3,7 @@
  * write it. It plays TRACE on the chip of IMAGE and puts the cells into SAVED, a new file. An image of cells has neither status bits nor
  * lock, so these are words, in hexadecimal, and are told at the end for the next time; nor has it the identification page, which is each
  * time as it left the factory. A write that still runs at the end, which bit 0 of the status shows, is not in SAVED. Ends with 0, with 1
- * where the trace was refused at a record, or with 2, and then nothing is saved.
+ * where the trace was refused at a record, or with 2, and then SAVED is missing or, on a full disk, cut short.
  */
 #include <errno.h>
 #include <stdio.h>
