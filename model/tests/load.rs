@@ -126,16 +126,7 @@ fn trusting_start(status: u8) -> Vec<Event> {
 /// Runs a whole trace and gives the answers with how it ended.
 fn run_whole(board: &mut Board, trace: &[u8]) -> (Ran, Vec<u8>) {
     let mut answers = vec![7; trace.len()];
-    let ran = run(
-        board.device.number,
-        &mut board.state,
-        &mut board.cells,
-        &mut board.identification,
-        &mut board.latch,
-        trace,
-        &mut answers,
-        trace.len(),
-    );
+    let ran = board.run(trace, &mut answers, trace.len());
     (ran, answers)
 }
 

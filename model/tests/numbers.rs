@@ -16,19 +16,6 @@ fn records(events: &[Event]) -> Vec<u8> {
     trace
 }
 
-fn run_on(board: &mut Board, trace: &[u8], answers: &mut [u8], limit: usize) -> Ran {
-    run(
-        board.device.number,
-        &mut board.state,
-        &mut board.cells,
-        &mut board.identification,
-        &mut board.latch,
-        trace,
-        answers,
-        limit,
-    )
-}
-
 fn ran(number: Number, done: usize, taken: usize) -> Ran {
     Ran {
         number,
@@ -164,7 +151,7 @@ fn refused(bytes: &[u8]) -> Number {
     let mut expected = Board::new(1);
     expected.set(Event::Select(false));
     let mut answers = [7; 4];
-    let given = run_on(&mut board, &trace, &mut answers, 10);
+    let given = board.run(&trace, &mut answers, 10);
     assert_eq!((given.done, given.taken), (1, 5));
     assert_eq!(answers, [2, 7, 7, 7]);
     assert_eq!(whole(&board), whole(&expected));
@@ -222,7 +209,7 @@ fn number_9_above_pin_byte_9() {
     let trace: Vec<u8> = (0..=9).flat_map(|pin| [3, 0, 1, 0, pin]).collect();
     let mut answers = [7; 10];
     assert_eq!(
-        run_on(&mut board, &trace, &mut answers, 10),
+        board.run(&trace, &mut answers, 10),
         ran(Number::Done, 10, 50)
     );
     let state = &board.state;
@@ -235,19 +222,19 @@ fn number_10_after_9_and_before_11() {
     board.start_write(&[0x02, 0x00, 0x11]);
     let before = whole(&board);
     assert_eq!(
-        run_on(&mut board, &[3, 0, 1, 0, 10], &mut [], 1),
+        board.run(&[3, 0, 1, 0, 10], &mut [], 1),
         ran(Number::Pin, 0, 0)
     );
     assert_eq!(
-        run_on(&mut board, &[2, 0, 3, 0], &mut [], 1),
+        board.run(&[2, 0, 3, 0], &mut [], 1),
         ran(Number::Answers, 0, 0)
     );
     assert_eq!(
-        run_on(&mut board, &[2, 0, 3, 0], &mut [7], 1),
+        board.run(&[2, 0, 3, 0], &mut [7], 1),
         ran(Number::Power, 0, 0)
     );
     assert_eq!(
-        run_on(&mut board, &[3, 0, 1, 0, 4], &mut [], 1),
+        board.run(&[3, 0, 1, 0, 4], &mut [], 1),
         ran(Number::Answers, 0, 0)
     );
     assert_eq!(whole(&board), before);
@@ -277,26 +264,14 @@ fn number_11_in_every_cycle() {
 fn number_0_at_the_limit_or_the_end() {
     let mut board = Board::new(2);
     let mut answers = [7; 3];
-    assert_eq!(
-        run_on(&mut board, &[], &mut answers, 5),
-        ran(Number::Done, 0, 0)
-    );
+    assert_eq!(board.run(&[], &mut answers, 5), ran(Number::Done, 0, 0));
     // At the limit nothing more is looked at, not even a record that would be refused.
-    assert_eq!(
-        run_on(&mut board, &[1], &mut answers, 0),
-        ran(Number::Done, 0, 0)
-    );
+    assert_eq!(board.run(&[1], &mut answers, 0), ran(Number::Done, 0, 0));
     let mut trace = records(&[Event::Wait(1), Event::Power]);
     trace.push(99);
-    assert_eq!(
-        run_on(&mut board, &trace, &mut answers, 2),
-        ran(Number::Done, 2, 12)
-    );
+    assert_eq!(board.run(&trace, &mut answers, 2), ran(Number::Done, 2, 12));
     assert_eq!(answers, [2, 2, 7]);
-    assert_eq!(
-        run_on(&mut board, &trace, &mut answers, 3),
-        ran(Number::Cut, 2, 12)
-    );
+    assert_eq!(board.run(&trace, &mut answers, 3), ran(Number::Cut, 2, 12));
 }
 
 #[test]

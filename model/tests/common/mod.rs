@@ -3,7 +3,7 @@
 #![allow(dead_code)] // each test file is its own crate and uses a part of the board
 
 use m95_model::{
-    device, event, is_sound, prepare, status_byte, Device, Event, Number, Output, State,
+    device, event, is_sound, prepare, run, status_byte, Device, Event, Number, Output, Ran, State,
 };
 
 pub struct Board {
@@ -44,6 +44,20 @@ impl Board {
             &mut self.identification,
             &mut self.latch,
             happening,
+        )
+    }
+
+    /// A trace, with as much room for answers and as many records as asked, whatever number it gives.
+    pub fn run(&mut self, trace: &[u8], answers: &mut [u8], limit: usize) -> Ran {
+        run(
+            self.device.number,
+            &mut self.state,
+            &mut self.cells,
+            &mut self.identification,
+            &mut self.latch,
+            trace,
+            answers,
+            limit,
         )
     }
 
