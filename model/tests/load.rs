@@ -6,8 +6,8 @@ mod common;
 use common::{Board, FALL, RISE};
 use m95_model::generate::{records_of, trace, Profile};
 use m95_model::{
-    is_sound, load, play, run, status_byte, stored, Contents, Cycle, Device, Event, Instruction,
-    Number, Output, Ran, State, DEVICES,
+    is_sound, load, play, status_byte, stored, Contents, Cycle, Device, Event, Instruction, Number,
+    Output, Ran, State, DEVICES,
 };
 
 /// Every byte that the status bits of a device can be: BP1 and BP0, and SRWD on all but device 1.
