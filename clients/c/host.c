@@ -28,35 +28,28 @@ static size_t number_of(const char *word, int base) {
     return end == word || *end != '\0' ? SIZE_MAX : number;
 }
 
-/* The cells of an image, if all of it can be read and has the device's length. */
-static int read_cells(FILE *image, size_t length) {
-    int is_good = fread(cells, 1, length, image) == length && fgetc(image) == EOF && !ferror(image);
-    return fclose(image) == 0 && is_good;
-}
-
-/* Plays a trace of any length in pieces. At the end of a piece a 6 only says that its last record goes on in the next. */
-static size_t play(size_t device, FILE *trace, size_t *records) {
-    size_t left = 0, more, taken, done, number;
-    do {
-        more = fread(piece + left, 1, sizeof piece - left, trace);
-        number = m95_run(device, LENT, piece, left + more, answers, sizeof answers, SIZE_MAX, &taken, &done);
-        *records += done;
-        left += more - taken;
-        memmove(piece, piece + taken, left);
-    } while (more > 0 && (number == M95_DONE || number == M95_REFUSED_CUT));
-    return number;
+/* Takes the cells of an image, and tells what is wrong with it. Where there is none the cells stay as they left the factory. */
+static int read_cells(const char *name, size_t length) {
+    FILE *image = fopen(name, "rb");
+    if (image == NULL && errno == ENOENT) {
+        tell(name, "there is none, so the chip is as it left the factory");
+        return 1;
+    }
+    int is_good = image != NULL && fread(cells, 1, length, image) == length && fgetc(image) == EOF && !ferror(image) && fclose(image) == 0;
+    if (!is_good) {
+        tell(name, "it cannot be read, or is not as long as the cells of the device");
+    }
+    return is_good;
 }
 
 int main(int count, char **words) {
-    size_t device = count == 7 ? number_of(words[1], 10) : 0, length = m95_cells(device), records = 0, status, stored, lock;
+    size_t device = count == 7 ? number_of(words[1], 10) : 0, length = m95_cells(device);
+    size_t records = 0, left = 0, more, taken, done, number, status, stored, lock;
     if (m95_prepare(device, LENT) != M95_DONE) {
         return tell("it takes a device, 1 to 4, and five more words", "host DEVICE STATUS LOCK IMAGE TRACE SAVED");
     }
-    FILE *image = fopen(words[4], "rb");
-    if (image == NULL && errno == ENOENT) {
-        tell(words[4], "there is none, so the chip is as it left the factory");
-    } else if (image == NULL || !read_cells(image, length)) {
-        return tell(words[4], "it cannot be read, or is not as long as the cells of the device");
+    if (!read_cells(words[4], length)) {
+        return 2;
     }
     if (m95_load(device, state, sizeof state, number_of(words[2], 16), number_of(words[3], 16)) != M95_DONE) {
         return tell(words[2], "the device has not all of these status bits, or the lock is neither 0 nor 1");
@@ -65,7 +58,13 @@ int main(int count, char **words) {
     if (trace == NULL) {
         return tell(words[5], strerror(errno));
     }
-    size_t number = play(device, trace, &records);
+    do { /* In pieces: at the end of one a 6 only says that its last record goes on in the next. */
+        more = fread(piece + left, 1, sizeof piece - left, trace);
+        number = m95_run(device, LENT, piece, left + more, answers, sizeof answers, SIZE_MAX, &taken, &done);
+        records += done;
+        left += more - taken;
+        memmove(piece, piece + taken, left);
+    } while (more > 0 && (number == M95_DONE || number == M95_REFUSED_CUT));
     if (ferror(trace) || (M95_REFUSED_DEVICE <= number && number <= M95_REFUSED_STATE)) {
         return tell(words[5], "it could not be played to its end");
     }
