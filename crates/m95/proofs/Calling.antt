@@ -22,7 +22,8 @@ use Rattle.rules.specs.Judge.{storable}
 use Rattle.rules.specs.Event.{step, answer, refusal}
 use Rattle.rules.specs.Sound.{isSound, Sound, Lent}
 use Rattle.rules.specs.Trace.{answerByte, Progress, progressOf, run}
-use Rattle.rules.specs.Call.{lentRefusal, worldRefusal, preparedAs, prepareOutcome, poweredWith, loadedAs, loadOutcome, repliedAs, eventOutcome, runOutcome, shownAs, cellPageOutcome, identificationPageOutcome}
+use Rattle.rules.specs.Call.{lentRefusal, worldRefusal, preparedAs, prepareOutcome, poweredWith, loadedAs}
+use Rattle.rules.specs.Call.{loadOutcome, repliedAs, eventOutcome, runOutcome, shownAs, cellPageOutcome, identificationPageOutcome}
 use Rattle.rules.proofs.Program.{lent-facts, world-facts}
 use Rattle.rules.proofs.Runs.{Course, course}
 use Rattle.rules.proofs.Widths.{of-device, page-below, start-aligned}

@@ -1,4 +1,4 @@
--- Any two outcomes that a public call's contract allows are equal: `unique-prepare`, `unique-load`, `unique-stored`, `unique-event`, `unique-run`, `unique-cell-page`, `unique-identification-page`, `unique-status-byte`, `unique-prepared-state`, `unique-world-refused`.
+-- Any two outcomes that a public call's contract allows are equal: a theorem `unique-…` for each call, under its name.
 use Prim.Native.Nat.{ℕ}
 use mathlib.Core.Path.{_≡_, sym, _∙_}
 use mathlib.Core.List.{List}

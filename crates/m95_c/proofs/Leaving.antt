@@ -21,7 +21,8 @@ use Rattle.rules.proofs.Choice.{if-elim}
 use Rattle.m95.proofs.Calling.{fine}
 use Rattle.m95_c.proofs.Packing.{state-length}
 use Rattle.m95_c.specs.StateBytes.{isState, stateOf, noState, bytesOf}
-use Rattle.m95_c.specs.Left.{deviceOf, sizesAs, sizesOf, Buffers, buffersOf, preparedAs, prepareLeft, byteFor, loadedAs, loadLeft, eventRefusal, eventOf, repliedAs, eventLeft, ranAs, runLeft, toldAs, statusLeft, keptAs, storedLeft, placedAs, cellPageLeft, identificationPageLeft}
+use Rattle.m95_c.specs.Left.{deviceOf, sizesAs, sizesOf, Buffers, buffersOf, preparedAs, prepareLeft, byteFor, loadedAs, loadLeft, eventRefusal}
+use Rattle.m95_c.specs.Left.{eventOf, repliedAs, eventLeft, ranAs, runLeft, toldAs, statusLeft, keptAs, storedLeft, placedAs, cellPageLeft, identificationPageLeft}
 
 pub device-small : (n : ℕ) → n ≤ 255 → n ≡ deviceOf n
 device-small n h = rw (le-leb n 255 h)

@@ -4,7 +4,8 @@ use mathlib.Core.Path.{_≡_}
 use mathlib.Core.List.{List}
 use Rattle.m95.proofs.Unique.{unique}
 use Rattle.m95_c.specs.StateBytes.{version}
-use Rattle.m95_c.specs.Left.{sizesOf, Buffers, buffersRefusal, Prepared, prepareLeft, Loaded, loadLeft, Kept, storedLeft, Replied, eventLeft, Ran, runLeft, Told, statusLeft, Placed, cellPageLeft, identificationPageLeft}
+use Rattle.m95_c.specs.Left.{sizesOf, Buffers, buffersRefusal, Prepared, prepareLeft, Loaded, loadLeft, Kept, storedLeft}
+use Rattle.m95_c.specs.Left.{Replied, eventLeft, Ran, runLeft, Told, statusLeft, Placed, cellPageLeft, identificationPageLeft}
 
 pub unique-cells : {x y : ℕ} (device : ℕ) → x ≡ sizesOf device .cells → y ≡ sizesOf device .cells → x ≡ y
 unique-cells device e f = unique e f

@@ -4,7 +4,8 @@
 ghost use mathlib.Core.Path.{_≡_};
 ghost use Prim.Native.Nat.{min};
 ghost use Rattle.m95_c.specs.StateBytes.{version};
-ghost use Rattle.m95_c.specs.Left.{deviceOf, sizesOf, buffersOf, buffersRefusal, preparedAs, prepareLeft, byteFor, loadedAs, loadLeft, eventRefusal, eventOf, repliedAs, eventLeft, ranAs, runLeft, toldAs, statusLeft, keptAs, storedLeft, placedAs, cellPageLeft, identificationPageLeft};
+ghost use Rattle.m95_c.specs.Left.{deviceOf, sizesOf, buffersOf, buffersRefusal, preparedAs, prepareLeft, byteFor, loadedAs, loadLeft, eventRefusal, eventOf};
+ghost use Rattle.m95_c.specs.Left.{repliedAs, eventLeft, ranAs, runLeft, toldAs, statusLeft, keptAs, storedLeft, placedAs, cellPageLeft, identificationPageLeft};
 use putting::put_state;
 use reading::is_state;
 use reading::no_state;

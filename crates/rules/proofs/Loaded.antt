@@ -127,7 +127,8 @@ module _ {row : Row} (v : Widths row) (w : World) (h : Sound row w) (l : Lent ro
       spent (step row Event.Power w) 0 0 (preparedState .filler) (λ e. clash (sym e ∙ ap (λ (k : Kind). changes k .cells) none))
       (λ e. clash (sym e ∙ ap (λ (k : Kind). changes k .status) none))
 
-  settles : rested (w .state .place .left) (w .state .pins) (w .state .cycle .kind) (w .state .registers .locked) ≡ rested 0 (preparedState .pins) Kind.None (eqb (number (w .state .registers .locked)) 1)
+  settles : rested (w .state .place .left) (w .state .pins) (w .state .cycle .kind) (w .state .registers .locked)
+      ≡ rested 0 (preparedState .pins) Kind.None (eqb (number (w .state .registers .locked)) 1)
   settles =
       let r = w .state .registers in
       ap (λ (n : ℕ). rested n (w .state .pins) (w .state .cycle .kind) (r .locked)) (h .unsettled .cycle .rests idle-now)

@@ -20,7 +20,8 @@ returns c =
     let row = c .before .before .before .row-of in
     let bits = c .before .before .stored in
     let known = c .before .is-device in
-    load-device (start .args .device) (start .args .stored) (row .result) (known .result) (row .ensures) (known .ensures) (bits .result) (bits .ensures) (c .if1 .taken)
+    load-device (start .args .device) (start .args .stored) (row .result) (known .result) (row .ensures) (known .ensures) (bits .result) (bits .ensures)
+    (c .if1 .taken)
 
 returns-2 : tie.Need-returns-2
 returns-2 c =
@@ -28,7 +29,8 @@ returns-2 c =
     let row = c .before .before .before .before .before .row-of in
     let bits = c .before .before .before .before .stored in
     let known = c .before .before .before .is-device in
-    load-bits (start .args .device) (start .args .stored) (row .result) (known .result) (row .ensures) (known .ensures) (bits .result) (bits .ensures) (c .before .before .if1 .left) (c .if2 .taken)
+    load-bits (start .args .device) (start .args .stored) (row .result) (known .result) (row .ensures) (known .ensures) (bits .result) (bits .ensures)
+    (c .before .before .if1 .left) (c .if2 .taken)
 
 returns-3 : tie.Need-returns-3
 returns-3 c =
@@ -36,7 +38,8 @@ returns-3 c =
     let row = c .before .before .before .before .before .before .before .row-of in
     let bits = c .before .before .before .before .before .before .stored in
     let known = c .before .before .before .before .before .is-device in
-    load-lock (start .args .device) (start .args .stored) (row .result) (known .result) (row .ensures) (known .ensures) (bits .result) (bits .ensures) (c .before .before .before .before .if1 .left) (c .before .before .if2 .left) (omega (arith, c .if3 .taken))
+    load-lock (start .args .device) (start .args .stored) (row .result) (known .result) (row .ensures) (known .ensures) (bits .result) (bits .ensures)
+    (c .before .before .before .before .if1 .left) (c .before .before .if2 .left) (omega (arith, c .if3 .taken))
 
 returns-4 : tie.Need-returns-4
 returns-4 c =
@@ -44,7 +47,8 @@ returns-4 c =
     let row = c .before .before .before .before .before .before .before .row-of in
     let bits = c .before .before .before .before .before .before .stored in
     let known = c .before .before .before .before .before .is-device in
-    load-whole (start .args .device) (start .args .stored) (row .result) (known .result) (row .ensures) (known .ensures) (bits .result) (bits .ensures) (c .before .before .before .before .if1 .left) (c .before .before .if2 .left) (omega (arith, c .if3 .left))
+    load-whole (start .args .device) (start .args .stored) (row .result) (known .result) (row .ensures) (known .ensures) (bits .result) (bits .ensures)
+    (c .before .before .before .before .if1 .left) (c .before .before .if2 .left) (omega (arith, c .if3 .left))
 
 pub stored-refused-spec : {M : Type 1} → statement M
 stored-refused-spec =

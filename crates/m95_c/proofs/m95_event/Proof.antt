@@ -70,11 +70,13 @@ returns-3 c = event-refused (c .before .before .before .before .before .before .
 
 put-state-requires : tie.Need-put-state-requires
 put-state-requires c κs =
-    let start = c .before .before .before .before .before .before .before .before .before .before .before .before .before .before .before .before .before .before .before .before .before .before .before .before .before .before .before .before .args in
-    let read = c .before .before .before .before .before .before .before .before .before .before .before .before .before .before .before .before .before .before .before .before .before .state-of in
-    let judged = c .before .before .before .before .before .before .before .before .before .before .before .before .before .before .before .before .world-refused in
-    state-long (c .before .before .before .before .before .before .before .before .before .before .before .before .before .before .before .before .before .before .before .before .before .before .before .device-of .result) (read .result) (start .state .now) (start .cells .now) (start .identification .now) (start .latch .now)
-    (judged .result) (read .ensures) (judged .ensures) (c .before .before .before .before .before .before .before .before .before .before .before .before .before .before .before .if1 .left)
+    let near = c .before .before .before .before .before .before .before .before .before in
+    let start = near .before .before .before .before .before .before .before .before .before .before .before .before .before .before .before .before .before .before .before .args in
+    let read = near .before .before .before .before .before .before .before .before .before .before .before .before .state-of in
+    let judged = near .before .before .before .before .before .before .before .world-refused in
+    state-long (near .before .before .before .before .before .before .before .before .before .before .before .before .before .before .device-of .result) (read .result)
+    (start .state .now) (start .cells .now) (start .identification .now)
+    (start .latch .now) (judged .result) (read .ensures) (judged .ensures) (near .before .before .before .before .before .before .if1 .left)
 
 same-length-13 : tie.Need-same-length-13
 same-length-13 c = search needs
@@ -90,20 +92,20 @@ same-length-16 c = search needs
 
 returns-4 : tie.Need-returns-4
 returns-4 c =
-    let start = c .before .before .before .before .before .before .before .before .before .before .before .before .before .before .before .before .before .before .before .before .before .before .before .before .before .before .before .before .before .before .before in
-    let device = c .before .before .before .before .before .before .before .before .before .before .before .before .before .before .before .before .before .before .before .before .before .before .before .before .before .before .device-of in
-    let read = c .before .before .before .before .before .before .before .before .before .before .before .before .before .before .before .before .before .before .before .before .before .before .before .before .state-of in
-    let asked = c .before .before .before .before .before .before .before .before .before .before .before .before .before .before .before .before .before .before .before .before .before .before .before .event-refused in
-    let judged = c .before .before .before .before .before .before .before .before .before .before .before .before .before .before .before .before .before .before .before .world-refused in
-    let taken = c .before .before .before .before .before .before .before .before .before .before .before .before .before .before .before .before .before .before .if1 .left in
-    let made = c .before .before .before .before .before .before .before .before .before .before .before .before .before .event-of in
-    let reply = c .before .before .before .before .before .before .before .before .before .before .before .before .event in
-    let put = c .before .before .put-state in
-    event-done (start .args .device) (device .result) (device .ensures)
-    (buffersOf (start .args .state .now) (start .args .cells .now) (start .args .identification .now) (start .args .latch .now))
-    (read .result) (read .ensures) (judged .result) (judged .ensures) (start .args .kind) (start .args .value) taken (asked .result) (asked .ensures)
-    (c .before .before .before .before .before .before .before .before .before .before .before .before .before .before .before .before .before .if2 .left) (made .result) (made .ensures) (reply .result .number) (reply .result .answer) (reply .result .state) _ _ _ (reply .ensures)
-    (c .before .before .before .before .if3 .left) _ (put .ensures)
+    let near = c .before .before .before .before .before .before .before .before .before .before .before .before in
+    let start = near .before .before .before .before .before .before .before .before .before .before .before .before .before .before .before .before .before .before .before .args in
+    let device = near .before .before .before .before .before .before .before .before .before .before .before .before .before .before .device-of in
+    let read = near .before .before .before .before .before .before .before .before .before .before .before .before .state-of in
+    let asked = near .before .before .before .before .before .before .before .before .before .before .before .event-refused in
+    let judged = near .before .before .before .before .before .before .before .world-refused in
+    let made = near .before .event-of in
+    let reply = near .event in
+    event-done (start .device) (device .result) (device .ensures)
+    (buffersOf (start .state .now) (start .cells .now) (start .identification .now) (start .latch .now))
+    (read .result) (read .ensures) (judged .result) (judged .ensures) (start .kind) (start .value) (near .before .before .before .before .before .before .if1 .left)
+    (asked .result) (asked .ensures) (near .before .before .before .before .before .if2 .left) (made .result) (made .ensures)
+    (reply .result .number) (reply .result .answer) (reply .result .state) _ _ _ (reply .ensures)
+    (c .before .before .before .before .if3 .left) _ (c .before .before .put-state .ensures)
 
 pub m95-event-spec : {M : Type 1} → statement M
 m95-event-spec =

@@ -50,7 +50,8 @@ returns-3 c =
     let device = c .before .before .before .before .before .before .before .before .device-of in
     let loaded = c .before .before .before .before .before .before .before .load in
     load-room (start .args .device) (device .result) (start .args .status) (start .args .lock) (status .result) (lock .result) (device .ensures) (status .ensures) (lock .ensures)
-    (start .args .state .now) (loaded .result .number) (loaded .result .state) (loaded .ensures) (c .before .before .before .before .before .if1 .left) (c .before .before .before .before .if2 .left) _ (c .before .before .put-state .ensures)
+    (start .args .state .now) (loaded .result .number) (loaded .result .state) (loaded .ensures)
+    (c .before .before .before .before .before .if1 .left) (c .before .before .before .before .if2 .left) _ (c .before .before .put-state .ensures)
 
 pub m95-load-spec : {M : Type 1} → statement M
 m95-load-spec =

@@ -34,11 +34,13 @@ run-requires c κs = search needs
 
 put-state-requires : tie.Need-put-state-requires
 put-state-requires c κs =
-    let start = c .before .before .before .before .before .before .before .before .before .before .before .before .before .before .before .before .before .before .before .before .before .before .before .before .before .before .before .before .args in
-    let read = c .before .before .before .before .before .before .before .before .before .before .before .before .before .before .before .before .before .before .before .state-of in
-    let judged = c .before .before .before .before .before .before .before .before .before .before .before .before .before .before .before .world-refused in
-    state-long (c .before .before .before .before .before .before .before .before .before .before .before .before .before .before .before .before .before .before .before .before .before .device-of .result) (read .result) (start .state .now) (start .cells .now) (start .identification .now) (start .latch .now)
-    (judged .result) (read .ensures) (judged .ensures) (c .before .before .before .before .before .before .before .before .before .before .before .before .before .before .if1 .left)
+    let near = c .before .before .before .before .before .before .before .before .before in
+    let start = near .before .before .before .before .before .before .before .before .before .before .before .before .before .before .before .before .before .before .before .args in
+    let read = near .before .before .before .before .before .before .before .before .before .before .state-of in
+    let judged = near .before .before .before .before .before .before .world-refused in
+    state-long (near .before .before .before .before .before .before .before .before .before .before .before .before .device-of .result) (read .result)
+    (start .state .now) (start .cells .now) (start .identification .now)
+    (start .latch .now) (judged .result) (read .ensures) (judged .ensures) (near .before .before .before .before .before .if1 .left)
 
 same-length-5 : tie.Need-same-length-5
 same-length-5 c = search needs
@@ -57,18 +59,17 @@ same-length-9 c = search needs
 
 returns-2 : tie.Need-returns-2
 returns-2 c =
-    let start = c .before .before .before .before .before .before .before .before .before .before .before .before .before .before .before .before .before .before .before .before .before .before .before .before .before .before .before .before .before .before .before in
-    let device = c .before .before .before .before .before .before .before .before .before .before .before .before .before .before .before .before .before .before .before .before .before .before .before .before .device-of in
-    let read = c .before .before .before .before .before .before .before .before .before .before .before .before .before .before .before .before .before .before .before .before .before .before .state-of in
-    let judged = c .before .before .before .before .before .before .before .before .before .before .before .before .before .before .before .before .before .before .world-refused in
-    let taken = c .before .before .before .before .before .before .before .before .before .before .before .before .before .before .before .before .before .if1 .left in
-    let ran = c .before .before .before .before .before .before .before .before .before .before .before .before .run in
-    let put = c .before .before .put-state in
-    run-left (start .args .device) (device .result) (device .ensures)
-    (buffersOf (start .args .state .now) (start .args .cells .now) (start .args .identification .now) (start .args .latch .now))
-    (read .result) (read .ensures) (judged .result) (judged .ensures) (start .args .trace .now) (start .args .answers .now) (start .args .limit) taken
-    (ran .result .number) (ran .result .taken) (ran .result .done) (ran .result .state) _ _ _ _ _ (ran .ensures)
-    (put .ensures)
+    let near = c .before .before .before .before .before .before .before .before .before .before .before .before in
+    let start = near .before .before .before .before .before .before .before .before .before .before .before .before .before .before .before .before .before .before .before .args in
+    let device = near .before .before .before .before .before .before .before .before .before .before .before .before .device-of in
+    let read = near .before .before .before .before .before .before .before .before .before .before .state-of in
+    let judged = near .before .before .before .before .before .before .world-refused in
+    let ran = near .run in
+    run-left (start .device) (device .result) (device .ensures)
+    (buffersOf (start .state .now) (start .cells .now) (start .identification .now) (start .latch .now))
+    (read .result) (read .ensures) (judged .result) (judged .ensures) (start .trace .now) (start .answers .now) (start .limit)
+    (near .before .before .before .before .before .if1 .left) (ran .result .number) (ran .result .taken) (ran .result .done) (ran .result .state) _ _ _ _ _ (ran .ensures)
+    (c .before .before .put-state .ensures)
 
 pub m95-run-spec : {M : Type 1} → statement M
 m95-run-spec =

@@ -13,9 +13,12 @@ row-of-requires c κs = search needs
 
 load-requires : tie.Need-load-requires
 load-requires c κs =
-    let start = c .before .before .before .before .before .before .before .before .before .before .before .before .before .before .before .before .before .before .before .before in
-    load-fits (start .args .device) (start .args .cells .now) (start .args .identification .now) (start .args .latch .now) (start .pre) _ _ _ _ _ (c .before .before .before .before .before .before .before .before .before .prepare .ensures)
-    (c .before .before .row-of .result) (c .before .before .row-of .ensures)
+    let near = c .before .before .before .before .before .before .before .before .before in
+    let start = near .before .before .before .before .before .before .before .before .before .before .before in
+    let given = start .args in
+    let row = c .before .before .row-of in
+    load-fits (given .device) (given .cells .now) (given .identification .now) (given .latch .now) (start .pre) _ _ _ _ _
+    (near .prepare .ensures) (row .result) (row .ensures)
 
 is-faulty-requires : tie.Need-is-faulty-requires
 is-faulty-requires c κs = search needs
@@ -42,10 +45,14 @@ complain-requires : tie.Need-complain-requires
 complain-requires c κs = search needs
 
 same-length-4 : tie.Need-same-length-4
-same-length-4 c = c .before .before .before .before .before .before .before .before .before .before .cells2 .given ∙ c .before .before .before .before .before .before .before .before .before .before .before .before .before .before .before .before .before .before .before .before .cells .given
+same-length-4 c =
+    let read = c .before .before .before .before .before .before .before .before .before .before in
+    read .cells2 .given ∙ read .before .before .before .before .before .before .before .before .before .before .cells .given
 
 same-length-5 : tie.Need-same-length-5
-same-length-5 c = c .before .before .before .before .before .before .before .before .identification2 .given ∙ c .before .before .before .before .before .before .before .before .before .before .before .before .before .before .before .before .before .before .identification .given
+same-length-5 c =
+    let read = c .before .before .before .before .before .before .before .before in
+    read .identification2 .given ∙ read .before .before .before .before .before .before .before .before .before .before .identification .given
 
 same-length-6 : tie.Need-same-length-6
 same-length-6 c = c .before .before .before .before .before .before .before .before .before .before .before .before .before .before .before .before .latch .given
@@ -55,19 +62,30 @@ returns-2 c = search needs
 
 play-loaded-requires : tie.Need-play-loaded-requires
 play-loaded-requires c κs =
-    let start = c .before .before .before .before .before .before .before .before .before .before .before .before .before .before .before .before .before .before .before .before .before .before .before .before .before .before .before .before .before .before .before .before .before in
     let chip = c .before .before .before .before .before .load2 in
-    loaded (start .args .device) (start .args .cells .now) (start .args .identification .now) (start .args .latch .now) (start .pre) _ _ _ _ _ (c .before .before .before .before .before .before .before .before .before .before .before .before .before .before .before .before .before .before .before .before .before .before .prepare .ensures)
-    (c .before .before .before .before .before .before .before .before .before .before .before .before .load .result .stored) (chip .result .number) (chip .result .state) _ _ (chip .ensures) (c .before .before .before .if2 .left) (c .before .before .before .before .before .before .before .before .before .before .before .cells2 .given) (c .before .before .before .before .before .before .before .before .before .identification2 .given)
+    let file = c .before .before .before .before .before .before .before .before .before .before .before .before in
+    let ready = file .before .before .before .before .before .before .before .before .before .before in
+    let start = ready .before .before .before .before .before .before .before .before .before .before .before in
+    let given = start .args in
+    loaded (given .device) (given .cells .now) (given .identification .now) (given .latch .now) (start .pre) _ _ _ _ _ (ready .prepare .ensures)
+    (file .load .result .stored) (chip .result .number) (chip .result .state) _ _ (chip .ensures) (c .before .before .before .if2 .left)
+    (c .before .before .before .before .before .before .before .before .before .before .before .cells2 .given)
+    (c .before .before .before .before .before .before .before .before .before .identification2 .given)
 
 same-length-7 : tie.Need-same-length-7
-same-length-7 c = c .before .before .before .before .before .cells3 .given ∙ c .before .before .before .before .before .before .before .before .before .before .before .before .before .before .before .before .before .before .cells2 .given ∙ c .before .before .before .before .before .before .before .before .before .before .before .before .before .before .before .before .before .before .before .before .before .before .before .before .before .before .before .before .cells .given
+same-length-7 c =
+    let read = c .before .before .before .before .before .before .before .before .before .before .before .before .before .before .before .before .before .before in
+    c .before .before .before .before .before .cells3 .given ∙ read .cells2 .given ∙ read .before .before .before .before .before .before .before .before .before .before .cells .given
 
 same-length-8 : tie.Need-same-length-8
-same-length-8 c = c .before .before .before .identification3 .given ∙ c .before .before .before .before .before .before .before .before .before .before .before .before .before .before .before .before .identification2 .given ∙ c .before .before .before .before .before .before .before .before .before .before .before .before .before .before .before .before .before .before .before .before .before .before .before .before .before .before .identification .given
+same-length-8 c =
+    let read = c .before .before .before .before .before .before .before .before .before .before .before .before .before .before .before .before in
+    c .before .before .before .identification3 .given ∙ read .identification2 .given ∙ read .before .before .before .before .before .before .before .before .before .before .identification .given
 
 same-length-9 : tie.Need-same-length-9
-same-length-9 c = c .before .latch2 .given ∙ c .before .before .before .before .before .before .before .before .before .before .before .before .before .before .before .before .before .before .before .before .before .before .before .before .latch .given
+same-length-9 c =
+    let read = c .before .before .before .before .before .before .before .before .before .before .before .before .before .before .before .before in
+    c .before .latch2 .given ∙ read .before .before .before .before .before .before .before .before .latch .given
 
 returns-3 : tie.Need-returns-3
 returns-3 c = search needs

@@ -68,20 +68,25 @@ slice-aggregate-play-into c = search needs
 
 play-into-requires : tie.Need-play-into-requires
 play-into-requires c κs =
-    let start = c .before .before .before .before .before .before .before .before .before .before .before .before .before .before .before .before .before .before .before .before .before .before .before in
     let run = c .before .before .before .before .started in
-    let refused : State → Type 0 = λ (s : State).
-    worldRefusal (start .args .device) (worldOf s (start .args .cells .now) (start .args .identification .now) (start .args .latch .now)) ≡ 0 in (
+    let read = c .before .before .before .before .before .before .before .before .before .before .before .read-up in
+    let room = c .before .before .before .before .before .before .before .before .before .before .before .before .before .before .before in
+    let start = room .before .before .before .before .before .before .before .before in
+    let given = start .args in
+    let refused : State → Type 0 = λ (s : State). worldRefusal (given .device) (worldOf s (given .cells .now) (given .identification .now) (given .latch .now)) ≡ 0 in (
       subst refused (sym (run .ensures .0)) (start .pre),
-      omega (arith, run .ensures .1, c .before .before .before .before .before .before .before .before .before .before .before .read-up .ensures .0),
-      omega (arith, c .before .before .before .before .before .before .before .before .before .before .buf2 .given, c .before .before .before .before .before .before .before .before .before .before .before .before .before .before .before .large-buffer .ensures),
+      omega (arith, run .ensures .1, read .ensures .0),
+      omega (arith, c .before .before .before .before .before .before .before .before .before .before .buf2 .given, room .large-buffer .ensures),
     )
 
 replace-requires : tie.Need-replace-requires
 replace-requires c κs = search needs
 
 tell-requires : tie.Need-tell-requires
-tell-requires c κs = fine-status (c .before .before .before .before .before .before .before .before .before .before .before .before .before .before .before .before .before .before .before .before .before .before .before .before .before .before .before .before .before .before .before .before .before .before .before .args .device) _ (c .before .before .before .before .before .before .before .before .before .before .before .play-into .ensures)
+tell-requires c κs =
+    let played = c .before .before .before .before .before .before .before .before .before .before .before in
+    let room = played .before .before .before .before .before .before .before .before .before .before .before .before .before .before .before .before in
+    fine-status (room .before .before .before .before .before .before .before .before .args .device) _ (played .play-into .ensures)
 
 same-length : tie.Need-same-length
 same-length c = search needs
