@@ -10,7 +10,7 @@ fn is_untouched(played: Played) -> bool {
 }
 
 // Puts the chip's new contents into CHIP's place by way of NEW, open as `fresh`, and answers whether the run can be told. After any
-// trouble, and where CHIP is as good as new, NEW is removed and CHIP stays as it is.
+// trouble, and where no record was done, NEW is removed and CHIP stays as it is.
 pub fn replace(
     played: Played,
     fresh: i32,
