@@ -8,6 +8,7 @@ ghost use Rattle.rules.specs.Send.{statusByte};
 ghost use Rattle.rules.specs.Trace.{progressOf};
 ghost use Rattle.rules.specs.Call.{lentRefusal, worldRefusal, preparedAs, prepareOutcome, storedIn, loadedAs};
 ghost use Rattle.rules.specs.Call.{loadOutcome, repliedAs, eventOutcome, runOutcome, shownAs, cellPageOutcome, identificationPageOutcome};
+use loading::stored_refused;
 use rules::Command;
 use rules::Cycle;
 use rules::Event;
@@ -24,6 +25,8 @@ use rules::Selection;
 use rules::State;
 use rules::Stored;
 use traces::records::Ran;
+
+mod loading;
 
 // What preparing and loading give back: the number, and the state.
 pub struct Prepared {
@@ -170,24 +173,6 @@ pub fn prepare(
         number: 0,
         state: state,
     }
-}
-
-// 1 where there is no such device, 5 where it has not these bits, or no lock is so. 0 otherwise.
-fn stored_refused(device: u8, stored: Stored) -> usize
-    ensures { λ r. ⌜ r ≡ loadOutcome device stored .number ⌝ }
-{
-    let row = tables::row_of(device);
-    let bits = bits::stored(row, stored.status);
-    if !tables::is_device(device) {
-        return 1;
-    }
-    if bits != stored.status {
-        return 5;
-    }
-    if 1 < stored.lock {
-        return 5;
-    }
-    0
 }
 
 // The state of a device that has just got its power, with what it has stored. Its cells and its identification page are the caller's.

@@ -1,9 +1,9 @@
--- `m95::stored_refused` meets its contract. The test of the lock is handed to `omega`, so that its meaning counts and not its spelling.
+-- `m95::loading::stored_refused` meets its contract. The test of the lock is handed to `omega`, so that its meaning counts and not its spelling.
 use native.Mathlib.Omega.{arith}
 use Rattle.m95.proofs.Calling.{load-device, load-bits, load-lock, load-whole}
 use borrow.Author.Needs.{needs}
-use Rattle.m95.proofs.stored_refused.Statement.{statement}
-use Rattle.m95.proofs.stored_refused.Tie as tie
+use Rattle.m95.proofs.loading.stored_refused.Statement.{statement}
+use Rattle.m95.proofs.loading.stored_refused.Tie as tie
 
 row-of-requires : tie.Need-row-of-requires
 row-of-requires c κs = search needs
