@@ -28,25 +28,25 @@ module _ (s : State) where
   pub answer-held : s .selection .held ≡ true → 2 ≡ answerByte (answer s)
   answer-held h = rw h
 
-  pub answer-level : (q : Level) → s .selection .held ≡ false → s .output .q ≡ q → answerByte q ≡ answerByte (answer s)
-  answer-level q h e = rw (h, e)
+  pub answer-level : {q : Level} → s .selection .held ≡ false → s .output .q ≡ q → answerByte q ≡ answerByte (answer s)
+  answer-level h e = rw (h, e)
 
 -- Chip Select.
-module _ (row : Row) (s r : State) (high : Bool) where
-  pub select-ends : (j d : State) → high ≡ true → (s .selection .selected && not (s .pins .s)) ≡ true → j ≡ judged row s → d ≡ deselected j
+module _ (row : Row) (s : State) {r : State} {high : Bool} where
+  pub select-ends : {j d : State} → high ≡ true → (s .selection .selected && not (s .pins .s)) ≡ true → j ≡ judged row s → d ≡ deselected j
       → r ≡ settled (withPins (pinsAfter (Event.Select true) (d .pins)) d) → r ≡ stepAlone row (Event.Select high) s
   unfolding step react judged
-  select-ends j d h e ej ed er = er ∙ rw (h, e, ed, ej)
+  select-ends h e ej ed er = er ∙ rw (h, e, ed, ej)
 
   pub select-idle : high ≡ true → (s .selection .selected && not (s .pins .s)) ≡ false
       → r ≡ settled (withPins (pinsAfter (Event.Select true) (s .pins)) s) → r ≡ stepAlone row (Event.Select high) s
   unfolding step react
   select-idle h e er = er ∙ rw (h, e)
 
-  pub select-begins : (t : State) → high ≡ false → s .pins .s ≡ true → t ≡ selected s
+  pub select-begins : {t : State} → high ≡ false → s .pins .s ≡ true → t ≡ selected s
       → r ≡ settled (withPins (pinsAfter (Event.Select false) (t .pins)) t) → r ≡ stepAlone row (Event.Select high) s
   unfolding step react
-  select-begins t h e et er = er ∙ rw (h, e, et)
+  select-begins h e et er = er ∙ rw (h, e, et)
 
   pub select-low : high ≡ false → s .pins .s ≡ false → r ≡ settled s → r ≡ stepAlone row (Event.Select high) s
   unfolding step react
@@ -61,11 +61,11 @@ module _ (row : Row) (s r : State) (high : Bool) where
   protect-low h er = er ∙ rw h
 
 -- The clock.
-module _ (row : Row) (s t r : State) (cells identification latch : List ℕ) (high d : Bool) (ed : d ≡ decodes s) where
-  pub clock-up : (m : List ℕ) → high ≡ true → t ≡ risen row (d && not (s .pins .c)) s → m ≡ risenLatch row (d && not (s .pins .c)) s latch
+module _ (row : Row) (s : State) (latch : List ℕ) {t r : State} {cells identification : List ℕ} {high d : Bool} (ed : d ≡ decodes s) where
+  pub clock-up : {m : List ℕ} → high ≡ true → t ≡ risen row (d && not (s .pins .c)) s → m ≡ risenLatch row (d && not (s .pins .c)) s latch
       → r ≡ settled (withPins (pinsAfter (Event.Clock true) (t .pins)) t) → worldOf r cells identification m ≡ step row (Event.Clock high) (worldOf s cells identification latch)
   unfolding step react risen
-  clock-up m h et em er = rw (h, er, em, et, ed)
+  clock-up h et em er = rw (h, er, em, et, ed)
 
   pub clock-down : high ≡ false → t ≡ fallen row (d && s .pins .c) s cells identification
       → r ≡ settled (withPins (pinsAfter (Event.Clock false) (t .pins)) t) → worldOf r cells identification latch ≡ step row (Event.Clock high) (worldOf s cells identification latch)
@@ -73,7 +73,7 @@ module _ (row : Row) (s t r : State) (cells identification latch : List ℕ) (hi
   clock-down h et er = rw (h, er, et, ed)
 
 -- Events that touch no list.
-module _ (row : Row) (s r : State) (cells identification latch : List ℕ) where
+module _ (row : Row) (s : State) {r : State} {cells identification latch : List ℕ} where
   beside : (e : Event) → (step row e (worldOf s cells identification latch) ≡ withState (stepAlone row e s) (worldOf s cells identification latch)) → r ≡ stepAlone row e s
       → worldOf r cells identification latch ≡ step row e (worldOf s cells identification latch)
   beside e f er = ap (λ (t : State). worldOf t cells identification latch) er ∙ sym f
@@ -100,19 +100,20 @@ module _ (row : Row) (s r : State) (cells identification latch : List ℕ) where
   unfolding step react
   power-alone er = beside Event.Power refl er
 
-pub waits : (row : Row) (w u : World) (n : ℕ) (r : State) → u ≡ waited row n w → r ≡ settled (u .state) → withState r u ≡ step row (Event.Wait n) w
+pub waits : (row : Row) (w : World) (n : ℕ) {u : World} {r : State} → u ≡ waited row n w → r ≡ settled (u .state) → withState r u ≡ step row (Event.Wait n) w
 unfolding step react waited waitedState
-waits row w u n r eu er = rw (er, eu)
+waits row w n eu er = rw (er, eu)
 
 -- Which arm an event is taken by.
-pub step-by : (row : Row) (w x : World) (e f : Event) → e ≡ f → x ≡ step row f w → x ≡ step row e w
-step-by row w x e f h k = k ∙ ap (λ (g : Event). step row g w) (sym h)
+pub step-by : (row : Row) (w : World) {x : World} {e f : Event} → e ≡ f → x ≡ step row f w → x ≡ step row e w
+step-by row w h k = k ∙ ap (λ (g : Event). step row g w) (sym h)
 
-pub refusal-by : (s : State) (e f : Event) (n : ℕ) → e ≡ f → n ≡ refusal f s → n ≡ refusal e s
-refusal-by s e f n h k = k ∙ ap (λ (g : Event). refusal g s) (sym h)
+pub refusal-by : (row : Row) (w : World) {e f : Event} {n : ℕ} → e ≡ f → n ≡ refusal row f w → n ≡ refusal row e w
+refusal-by row w h k = k ∙ ap (λ (g : Event). refusal row g w) (sym h)
 
-pub power-refused : (s : State) (b : Bool) → b ≡ busy s → b ≡ true → 11 ≡ refusal Event.Power s
-power-refused s b e h = rw (← e, h)
+module _ (row : Row) (w : World) {b : Bool} (e : b ≡ busy (w .state)) where
+  pub power-refused : b ≡ true → 11 ≡ refusal row Event.Power w
+  power-refused h = rw (← e, h)
 
-pub power-taken : (s : State) (b : Bool) → b ≡ busy s → b ≡ false → 0 ≡ refusal Event.Power s
-power-taken s b e h = rw (← e, h)
+  pub power-taken : b ≡ false → 0 ≡ refusal row Event.Power w
+  power-taken h = rw (← e, h)

@@ -1,12 +1,15 @@
 // What each event does: its pin, what it does besides, and the hold rule after it.
 
+ghost use Prim.Native.Nat.{_+_, _<_};
 ghost use mathlib.Core.Path.{_≡_};
 ghost use mathlib.Core.Bool.{true, false};
-ghost use Rattle.rules.specs.World.{worldOf};
+ghost use lib.ListN.{length};
+ghost use Rattle.rules.specs.World.{World, worldOf, withState};
 ghost use Rattle.rules.specs.Device.{Widths};
 ghost use Rattle.rules.specs.Event.{selected, deselected, decodes, settled, step, refusal, answer};
 ghost use Rattle.rules.specs.Trace.{answerByte};
-ghost use Rattle.rules.specs.Sound.{Sound, Lent};
+ghost use Rattle.rules.specs.Judge.{storable};
+ghost use Rattle.rules.specs.Sound.{SoundInput, Sound, Lent};
 ghost use Rattle.chip.specs.Alone.{stepAlone};
 use rules::Command;
 use rules::Event;
@@ -175,7 +178,8 @@ pub fn clock(
     latch: &mut [u8],
     high: bool,
 ) -> State
-    requires { ⌜ (Widths row) × (Sound row (worldOf s (now cells) (now identification) (now latch))) × (Lent row (worldOf s (now cells) (now identification) (now latch))) ⌝ }
+    requires { ⌜ (Widths row) × (SoundInput (s .input)) × (s .place .address < row .cells) × (storable row (s .registers .status) ≡ s .registers .status) ⌝ }
+    requires { ⌜ (length (now cells) ≡ row .cells) × (length (now identification) ≡ row .page) × (length (now latch) ≡ row .page + row .page) ⌝ }
     ensures { λ r. ⌜ worldOf r (now (cells .entry)) (now (identification .entry)) (now (latch .exit)) ≡ step row (Event.Clock high) (worldOf s (now (cells .entry)) (now (identification .entry)) (now (latch .entry))) ⌝ }
 {
     if high {
@@ -229,9 +233,9 @@ pub fn answer(s: State) -> u8
     }
 }
 
-// What an event is refused with: 11 for power during a cycle, or 0.
+// What an event is refused with: 11 for power during a cycle, or 0. The state tells, whatever the device and its buffers.
 pub fn refused(event: Event, s: State) -> usize
-    ensures { λ r. ⌜ r ≡ refusal event s ⌝ }
+    ensures { λ r. ⌜ ((row : Row) (w : World) → r ≡ refusal row event (withState s w)) ⌝ }
 {
     match event {
         Event::Clock(_) => 0,

@@ -26,8 +26,7 @@ use Rattle.rules.specs.Call.{lentRefusal, worldRefusal, preparedAs, prepareOutc
 use Rattle.rules.specs.Call.{loadOutcome, repliedAs, eventOutcome, runOutcome, shownAs, cellPageOutcome, identificationPageOutcome}
 use Rattle.rules.proofs.Program.{lent-facts, world-facts}
 use Rattle.rules.proofs.Runs.{Course, course}
-use Rattle.rules.proofs.Widths.{of-device, page-below, start-aligned}
-use Rattle.write.proofs.Passing.{page-room}
+use Rattle.rules.proofs.Widths.{of-device, page-below, start-aligned, page-room}
 
 -- The row that was looked up has the widths.
 pub row-widths : (device : ℕ) (row : Row) → row ≡ rowOf device → Widths row
@@ -149,7 +148,7 @@ module _ (device : ℕ) (w : World) (e : Event) (n : ℕ) (en : n ≡ worldRefus
   unfolding eventOutcome
   event-refused z = rw (← en, ne-eqb n 0 z, ne-eqb n 0 z)
 
-  module _ (z : n ≡ 0) (m : ℕ) (em : m ≡ refusal e (w .state)) where
+  module _ (z : n ≡ 0) (m : ℕ) (em : m ≡ refusal (rowOf device) e w) where
     pub event-power : (m ≡ 0 → ⊥) → repliedAs m 2 w ≡ eventOutcome device w e
     unfolding eventOutcome
     event-power h = rw (← en, z, ← em, ne-eqb m 0 h)

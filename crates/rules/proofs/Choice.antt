@@ -1,7 +1,9 @@
 -- Laws on choices by a test, and on tests joined by "and", "or" and "not".
 use mathlib.Core.Path.{_≡_, refl, sym, _∙_}
 use mathlib.Core.Bool.{Bool, true, false, _&&_, _||_, true≢false}
+use mathlib.Core.List.{List, [], _∷_}
 use Rattle.rules.specs.World.{if_then_else_}
+use Rattle.rules.specs.Sound.{all}
 
 -- A choice has a property if each side has it under its test.
 pub if-elim {ℓ κ} : {A : Type ℓ} (P : A → Type κ) (b : Bool) {x y : A} → (b ≡ true → P x) → (b ≡ false → P y) → P (if b then x else y)
@@ -14,7 +16,8 @@ if-both R true f g = f refl
 if-both R false f g = g refl
 
 -- A choice by d and, within it, by t; and one by both.
-pub if-within {ℓ κ μ} : {A : Type ℓ} {B : Type κ} (P : A → B → Type μ) (d t : Bool) {x y z : A} {b b′ : B} → (t ≡ true → P x b′) → (t ≡ false → P y b) → P z b → P (if d then (if t then x else y) else z) (if d && t then b′ else b)
+pub if-within {ℓ κ μ} : {A : Type ℓ} {B : Type κ} (P : A → B → Type μ) (d t : Bool) {x y z : A} {b b′ : B}
+    → (t ≡ true → P x b′) → (t ≡ false → P y b) → P z b → P (if d then (if t then x else y) else z) (if d && t then b′ else b)
 if-within P true true f g h = f refl
 if-within P true false f g h = g refl
 if-within P false t f g h = h
@@ -68,3 +71,16 @@ or-first false b e f = clash (sym e ∙ f)
 pub or-map : (a b c : Bool) → (b ≡ true → c ≡ true) → (a || b) ≡ true → (a || c) ≡ true
 or-map true b c f e = refl
 or-map false b c f e = f e
+
+-- A list of tests that all hold is a fact for each, and the other way round.
+abbrev pub Hold : List Bool → Type 0
+Hold [] = Unit
+Hold (b ∷ bs) = (b ≡ true) × Hold bs
+
+pub each : (bs : List Bool) → all bs ≡ true → Hold bs
+each [] e = tt
+each (b ∷ bs) e = (and-left b (all bs) e, each bs (and-right b (all bs) e))
+
+pub all-of : (bs : List Bool) → Hold bs → all bs ≡ true
+all-of [] e = refl
+all-of (b ∷ bs) e = and-both b (all bs) (e .0) (all-of bs (e .1))

@@ -8,7 +8,7 @@ use lib.ListN.{drop, length, length-append}
 use lib.Seq.{drop-append-seam}
 use lib.Dec.{eqb, leb, ltb}
 use borrow.Author.Tests.{eqb-true, eq-eqb, lt-leb, lt-ltb, ltb-true}
-use Rattle.rules.specs.World.{Row, Event, State, World}
+use Rattle.rules.specs.World.{Row, Event, World}
 use Rattle.rules.specs.Event.{answer, refusal, step, next, after}
 use Rattle.rules.specs.Sound.{all}
 use Rattle.rules.specs.Trace.{two, eventAt, recordRefusal, answerByte, Progress, progressOf, run, glued}
@@ -19,64 +19,64 @@ use Rattle.rules.proofs.Pieces.{pieces}
 use Rattle.rules.proofs.Runs.{turn-over, turn-does, run-stays}
 
 -- A record has the length that it says, reads as its event, and is refused exactly if its event is.
-record Readable (e : Event) (s : State) : Type 0 where
+record Readable (row : Row) (e : Event) (w : World) : Type 0 where
   long : 2 + two (encoded e) 0 ≡ length (encoded e)
   event : eventAt (encoded e) 0 ≡ e
-  refused : recordRefusal (encoded e) 0 false s ≡ refusal e s
+  refused : recordRefusal row (encoded e) 0 false w ≡ refusal row e w
 
-readable : (e : Event) (s : State) → fits e ≡ true → Readable e s
+readable : (row : Row) (e : Event) (w : World) → fits e ≡ true → Readable row e w
 unfolding eventAt recordRefusal
-readable (Event.Clock true) s h = record { long = refl; event = refl; refused = refl }
-readable (Event.Clock false) s h = record { long = refl; event = refl; refused = refl }
-readable (Event.Data true) s h = record { long = refl; event = refl; refused = refl }
-readable (Event.Data false) s h = record { long = refl; event = refl; refused = refl }
-readable (Event.Select true) s h = record { long = refl; event = refl; refused = refl }
-readable (Event.Select false) s h = record { long = refl; event = refl; refused = refl }
-readable (Event.Hold true) s h = record { long = refl; event = refl; refused = refl }
-readable (Event.Hold false) s h = record { long = refl; event = refl; refused = refl }
-readable (Event.Protect true) s h = record { long = refl; event = refl; refused = refl }
-readable (Event.Protect false) s h = record { long = refl; event = refl; refused = refl }
-readable (Event.Wait n) s h = record { long = refl; event = ap Event.Wait (omega (arith, ltb-true n 4_294_967_296 h)); refused = refl }
-readable Event.Power s h = record { long = refl; event = refl; refused = refl }
+readable row (Event.Clock true) w h = record { long = refl; event = refl; refused = refl }
+readable row (Event.Clock false) w h = record { long = refl; event = refl; refused = refl }
+readable row (Event.Data true) w h = record { long = refl; event = refl; refused = refl }
+readable row (Event.Data false) w h = record { long = refl; event = refl; refused = refl }
+readable row (Event.Select true) w h = record { long = refl; event = refl; refused = refl }
+readable row (Event.Select false) w h = record { long = refl; event = refl; refused = refl }
+readable row (Event.Hold true) w h = record { long = refl; event = refl; refused = refl }
+readable row (Event.Hold false) w h = record { long = refl; event = refl; refused = refl }
+readable row (Event.Protect true) w h = record { long = refl; event = refl; refused = refl }
+readable row (Event.Protect false) w h = record { long = refl; event = refl; refused = refl }
+readable row (Event.Wait n) w h = record { long = refl; event = ap Event.Wait (omega (arith, ltb-true n 4_294_967_296 h)); refused = refl }
+readable row Event.Power w h = record { long = refl; event = refl; refused = refl }
 
 -- The answer byte of what is seen of an event.
 abbrev pub byteOf : Visible → ℕ
 byteOf v = answerByte (v .1)
 
 -- An event that is not refused, and the run of its record.
-module _ (row : Row) (e : Event) (w : World) (z : refusal e (w .state) ≡ 0) where
+module _ (row : Row) (e : Event) (w : World) (z : refusal row e w ≡ 0) where
   pub steps : next row e w ≡ step row e w
   unfolding next
   steps = rw z
 
   pub answers-so : byteOf (visible row e w) ≡ answerByte (answer (next row e w .state))
-  answers-so = ap answerByte (if-yes (eqb (refusal e (w .state)) 0) _ _ (eq-eqb (refusal e (w .state)) 0 z))
+  answers-so = ap answerByte (if-yes (eqb (refusal row e w) 0) _ _ (eq-eqb (refusal row e w) 0 z))
 
   one-record : fits e ≡ true → (a : ℕ) (answers : List ℕ)
       → run 1 row (encoded e) (progressOf 0 0 0 w (a ∷ answers)) ≡ progressOf 0 (length (encoded e)) 1 (next row e w) (byteOf (visible row e w) ∷ answers)
   one-record f a answers =
-      let r = readable e (w .state) f in
+      let r = readable row e w f in
       let byte = byteOf (visible row e w) in
       let room : leb (length (a ∷ answers)) 0 ≡ false = lt-leb (length (a ∷ answers)) 0 (omega arith) in
-      let unrefused = ap (λ (full : Bool). recordRefusal (encoded e) 0 full (w .state)) room ∙ r .refused ∙ z in
+      let unrefused = ap (λ (full : Bool). recordRefusal row (encoded e) 0 full w) room ∙ r .refused ∙ z in
       let size : length (encoded e) ≡ 0 + 2 + two (encoded e) 0 = omega (arith, r .long) in
       sym
       (ap (λ (n : ℕ). progressOf 0 n 1 (next row e w) (byte ∷ answers)) size
-      ∙ turn-does row (encoded e) 0 0 w (a ∷ answers) (omega (arith, size)) (two (encoded e) 0) byte e (next row e w) unrefused refl (sym (r .event)) steps answers-so)
+      ∙ turn-does row (encoded e) 0 w (a ∷ answers) (omega (arith, size)) unrefused refl (sym (r .event)) steps answers-so)
 
 -- The parts of the test for events that a run can do.
 module _ (row : Row) (e : Event) (es : List Event) (w : World) (r : runnable row (e ∷ es) w ≡ true) where
-  pub first-taken : (fits e && eqb (refusal e (w .state)) 0) ≡ true
-  first-taken = and-left (fits e && eqb (refusal e (w .state)) 0) (runnable row es (next row e w)) r
+  pub first-taken : (fits e && eqb (refusal row e w) 0) ≡ true
+  first-taken = and-left (fits e && eqb (refusal row e w) 0) (runnable row es (next row e w)) r
 
   pub rest-runs : runnable row es (next row e w) ≡ true
-  rest-runs = and-right (fits e && eqb (refusal e (w .state)) 0) (runnable row es (next row e w)) r
+  rest-runs = and-right (fits e && eqb (refusal row e w) 0) (runnable row es (next row e w)) r
 
   first-fits : fits e ≡ true
-  first-fits = and-left (fits e) (eqb (refusal e (w .state)) 0) first-taken
+  first-fits = and-left (fits e) (eqb (refusal row e w) 0) first-taken
 
-  first-runs : refusal e (w .state) ≡ 0
-  first-runs = eqb-true (refusal e (w .state)) 0 (and-right (fits e) (eqb (refusal e (w .state)) 0) first-taken)
+  first-runs : refusal row e w ≡ 0
+  first-runs = eqb-true (refusal row e w) 0 (and-right (fits e) (eqb (refusal row e w) 0) first-taken)
 
 -- The end of a run that does them all.
 abbrev pub ended : Row → List Event → World → List ℕ → Progress

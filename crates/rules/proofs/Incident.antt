@@ -57,7 +57,7 @@ unfolding prepared
 prepared-lent {row} v =
     record {
       cells = length-replicate (row .cells) 0xFF;
-      identification = simp (length-append, length-replicate) (omega (arith, short (row .coded), v .codeFits));
+      identification = simp (length-append, length-replicate) (omega (arith, short (row .coded), v .pageLeast));
       latch = rw length-replicate (omega arith);
     }
   where

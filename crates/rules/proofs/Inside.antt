@@ -1,13 +1,13 @@
 -- Inside a selection, beside the twin that has none: what a broken selection changes that its twin has not.
 use Prim.Native.Nat.{ℕ, suc, _+_, _*_, _%_}
-use mathlib.Core.Path.{_≡_, refl, sym, ap, _∙_, subst, subst₂}
+use mathlib.Core.Path.{_≡_, refl, sym, ap, _∙_, subst}
 use mathlib.Core.Bool.{Bool, true, false, not, _&&_, and-false}
 use mathlib.Core.List.{List}
 use native.Mathlib.Omega.{arith}
 use lib.ListN.{length}
 use lib.Dec.{eqb, ltb}
 use borrow.Author.Tests.{eqb-true, eqb-false}
-use Rattle.rules.specs.World.{Row, Kind, Event, Input, World, if_then_else_, number, withPins, withState, withLatch}
+use Rattle.rules.specs.World.{Row, Instruction, Kind, Event, Input, World, if_then_else_, number, withPins, withState, withLatch}
 use Rattle.rules.specs.Device.{Widths}
 use Rattle.rules.specs.Instruction.{facts, changes, busy, holdsLatch, latches, decode, turnedAway}
 use Rattle.rules.specs.Receive.{isCode, isLatched, latchAfter, inputAfter, risen, risenLatch}
@@ -19,8 +19,8 @@ use Rattle.rules.specs.Selections.{rises, Inside, end, clock, input, low
 use Rattle.rules.proofs.Choice.{if-elim, if-no, clash, and-left, and-right, and-both}
 use Rattle.rules.proofs.Latch.{Agree}
 use Rattle.rules.proofs.Received.{lock-form, latch-long}
-use Rattle.rules.proofs.Preserved.{unheld, pinned, preserved}
-use Rattle.rules.proofs.Same.{Left, idle, waited-bytes, waited-holds}
+use Rattle.rules.proofs.Preserved.{unheld, pinned, next-sound}
+use Rattle.rules.proofs.Same.{Left, idle, waited-latch, waited-holds}
 
 -- The count of decoded rises tells the bits received, and none means no byte.
 pub record Counted (n : ℕ) (i : Input) : Type 0 where
@@ -36,16 +36,28 @@ pub data In (row : Row) (n : ℕ) : World → World → Type 0 where
 
 -- While a cycle holds the latch, no byte comes to it.
 module _ {row : Row} (w : World) (k : Unsettled row w) (run : busy (w .state) ≡ true) where
+  -- A code that uses the latch is turned away.
+  turned : (i : Instruction) → latches i ≡ true → turnedAway (w .state) i ≡ true
+  turned i h = and-both (busy (w .state)) (not (facts i .taken)) run (ap not (lock-form i .2 h))
+
   unchanged : (b : ℕ) → latchAfter row b (w .state) (w .latch) ≡ w .latch
   unfolding latchAfter
   unchanged b =
       let s = w .state in
       let i = decode row b in
+      let j = s .command .instruction in
+      let past = ltb (row .width) (s .input .bytes) in
+      let here = not (s .command .away) in
       let P : List ℕ → Type 0 = λ (m : List ℕ). m ≡ w .latch in
       if-elim P (isCode s)
-      (λ _. if-elim P (latches i && not (turnedAway s i)) (λ t. clash (sym (and-right (latches i) (not (turnedAway s i)) t) ∙ ap not (and-both (busy s) (not (facts i .taken)) run (ap not (lock-form i .2 (and-left (latches i) (not (turnedAway s i)) t)))))) (λ _. refl))
-      (λ e. if-elim P (isLatched row s) (λ t. clash (sym (and-right (ltb (row .width) (s .input .bytes) && latches (s .command .instruction)) (not (s .command .away)) t)
-      ∙ ap not (k .turned run (eqb-false (s .input .bytes) 0 e) (lock-form (s .command .instruction) .2 (and-right (ltb (row .width) (s .input .bytes)) (latches (s .command .instruction)) (and-left (ltb (row .width) (s .input .bytes) && latches (s .command .instruction)) (not (s .command .away)) t)))))) (λ _. refl))
+      (λ _. if-elim P (latches i && not (turnedAway s i))
+      (λ t. clash (sym (and-right (latches i) (not (turnedAway s i)) t) ∙ ap not (turned i (and-left (latches i) (not (turnedAway s i)) t))))
+      (λ _. refl))
+      (λ e. if-elim P (isLatched row s)
+      (λ t.
+      let before = and-left (past && latches j) here t in
+      clash (sym (and-right (past && latches j) here t) ∙ ap not (k .turned run (eqb-false (s .input .bytes) 0 e) (lock-form j .2 (and-right past (latches j) before)))))
+      (λ _. refl))
 
 kind-runs : (k : Kind) → holdsLatch k ≡ true → changes k .runs ≡ true
 kind-runs Kind.None e = clash (sym e)
@@ -84,8 +96,7 @@ module _ {row : Row} (v : Widths row) (w : World) (k : Unsettled row w) (long : 
   unfolding react waitedState waited
   wait-in q =
       let x = unheld row (Event.Wait q) w in
-      let e = waited-bytes row w l q h in
-      subst₂ (λ (a i : List ℕ). In row n x (record { state = twinOf l y x .state; cells = a; identification = i; latch = l })) (e .0) (e .1)
+      subst (In row n x) (sym (waited-latch row (withState (idle y (withPins (pinsAfter (Event.Select true) (w .state .pins)) (w .state))) w) l q h))
       (twin x l y m on c (λ u. h (waited-holds row w q u)))
 
 settled-in : {row : Row} {n : ℕ} {w t : World} → In row n w t → In row n (withState (settled (w .state)) w) (withState (settled (t .state)) t)
@@ -123,23 +134,23 @@ module _ {row : Row} (v : Widths row) where
   unfolding next step react
   run-in end k e g = (k, e, g)
   run-in {n} {w} (clock b i) k e g =
-      let p = preserved row v (Event.Clock b) w k e in
+      let p = next-sound v (Event.Clock b) w k e in
       run-in i (p .0) (p .1) (clock-in b (k .unsettled) e g)
   run-in {n} (input b i) k e (twin w l y m on c h) =
-      let p = preserved row v (Event.Data b) w k e in
+      let p = next-sound v (Event.Data b) w k e in
       run-in i (p .0) (p .1) (uncounted w (next row (Event.Data b) w) (settled-in (twin (pinned (Event.Data b) w) l y m on c h)))
   run-in {n} {w} (low i) k e g =
-      let p = preserved row v (Event.Select false) w k e in
+      let p = next-sound v (Event.Select false) w k e in
       run-in i (p .0) (p .1) (uncounted w (next row (Event.Select false) w) (low-in (k .unsettled) g))
   run-in {n} (hold b i) k e (twin w l y m on c h) =
-      let p = preserved row v (Event.Hold b) w k e in
+      let p = next-sound v (Event.Hold b) w k e in
       run-in i (p .0) (p .1) (uncounted w (next row (Event.Hold b) w) (settled-in (twin (pinned (Event.Hold b) w) l y m on c h)))
   run-in {n} (protect true i) k e (twin w l y m on c h) =
-      let p = preserved row v (Event.Protect true) w k e in
+      let p = next-sound v (Event.Protect true) w k e in
       run-in i (p .0) (p .1) (uncounted w (next row (Event.Protect true) w) (settled-in (twin (pinned (Event.Protect true) w) l y m on c h)))
   run-in {n} (protect false i) k e (twin w l y m on c h) =
-      let p = preserved row v (Event.Protect false) w k e in
+      let p = next-sound v (Event.Protect false) w k e in
       run-in i (p .0) (p .1) (uncounted w (next row (Event.Protect false) w) (settled-in (twin (unheld row (Event.Protect false) w) l y m on c h)))
   run-in {n} (wait q i) k e (twin w l y m on c h) =
-      let p = preserved row v (Event.Wait q) w k e in
+      let p = next-sound v (Event.Wait q) w k e in
       run-in i (p .0) (p .1) (uncounted w (next row (Event.Wait q) w) (settled-in (wait-in v w (k .unsettled) (e .latch) l y n m on c h q)))

@@ -65,10 +65,12 @@ module _ (row : Row) (a b : ℕ) (u : a < row .page) (i : ℕ) where
       go true e = subst (λ (k : ℕ). getD (set l a b) k 0 ≡ b) (sym (eqb-true i a e)) (getD-set-same l a b 0 (omega arith))
       go false e = getD-set-other l a i b 0 (eqb-false i a e)
 
-pub marked-agree : (row : Row) (l m : List ℕ) (a b : ℕ) → row .page + row .page ≤ length l → length m ≡ length l → a % row .page < row .page → Agree row l m → Agree row (marked row a b l) (marked row a b m)
+pub marked-agree : (row : Row) (l m : List ℕ) (a b : ℕ) → row .page + row .page ≤ length l → length m ≡ length l → a % row .page < row .page
+    → Agree row l m → Agree row (marked row a b l) (marked row a b m)
 marked-agree row l m a b long e u h i v =
     let p = a % row .page in
     let long′ : row .page + row .page ≤ length m = omega arith in
     let k : (if eqb i p then 1 else getD l (row .page + i) 0) ≡ (if eqb i p then 1 else getD m (row .page + i) 0) = if-both (λ (x y : ℕ). x ≡ y) (eqb i p) (λ _. refl) (λ _. h i v .0) in
-    let d : (if eqb i p then 1 else getD l (row .page + i) 0) ≡ 1 → (if eqb i p then b else getD l i 0) ≡ (if eqb i p then b else getD m i 0) = λ q. if-both (λ (x y : ℕ). x ≡ y) (eqb i p) (λ _. refl) (λ f. h i v .1 (rw f at q)) in
+    let d : (if eqb i p then 1 else getD l (row .page + i) 0) ≡ 1 → (if eqb i p then b else getD l i 0) ≡ (if eqb i p then b else getD m i 0) =
+    λ q. if-both (λ (x y : ℕ). x ≡ y) (eqb i p) (λ _. refl) (λ f. h i v .1 (rw f at q)) in
     rw (mark-read row p b u i l long, mark-read row p b u i m long′, data-read row p b u i l v long, data-read row p b u i m v long′) (k, d)

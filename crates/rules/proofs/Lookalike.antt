@@ -24,7 +24,7 @@ module _ {row : Row} {u v : World} (g : Lookalike row u v) (e : Event) where
   first-seen : visible row e u ≡ visible row e v
   first-seen = let all = g .unseen (e ∷ []) in cc
 
-  refused-alike : refusal e (u .state) ≡ refusal e (v .state)
+  refused-alike : refusal row e u ≡ refusal row e v
   refused-alike = ap (λ (x : Visible). x .0) first-seen
 
   next-alike : Lookalike row (next row e u) (next row e v)
@@ -41,11 +41,11 @@ does-taken false n r e = eqb-true r 0 e
 
 -- One turn: both do the record or neither, and it is answered alike.
 module _ {row : Row} {u v : World} (g : Lookalike row u v) where
-  record-alike : (t : List ℕ) (at : ℕ) (full : Bool) → recordRefusal t at full (u .state) ≡ recordRefusal t at full (v .state)
+  record-alike : (t : List ℕ) (at : ℕ) (full : Bool) → recordRefusal row t at full u ≡ recordRefusal row t at full v
   unfolding recordRefusal
   record-alike t at full = rw (refused-alike g (eventAt t at))
 
-  does-alike : (n at k size : ℕ) (answers : List ℕ) (e : Event) (d : Bool) → (d ≡ true → refusal e (u .state) ≡ 0) →
+  does-alike : (n at k size : ℕ) (answers : List ℕ) (e : Event) (d : Bool) → (d ≡ true → refusal row e u ≡ 0) →
       let turned : World → Progress = λ (w : World).
       let x = step row e w in
       progressOf n (if d then at + 2 + size else at) (if d then k + 1 else k) (if d then x else w) (if d then set answers k (answerByte (answer (x .state))) else answers) in
@@ -66,10 +66,10 @@ module _ (row : Row) (t : List ℕ) where
   turn-abreast (abreast n at k {u} answers g) =
       let full = leb (length answers) k in
       let over = not (eqb n 0) || leb (length t) at in
-      let r = recordRefusal t at full (u .state) in
+      let r = recordRefusal row t at full u in
       let m = if over then n else r in
       rw (← (record-alike g t at full))
-      (does-alike g m at k (two t at) answers (eventAt t at) (not over && eqb m 0) (λ d. ready t at full (u .state) (does-taken over n r d) .taken))
+      (does-alike g m at k (two t at) answers (eventAt t at) (not over && eqb m 0) (λ d. ready (does-taken over n r d) .taken))
 
   pub run-abreast : {p q : Progress} (limit : ℕ) → Abreast row p q → Abreast row (run limit row t p) (run limit row t q)
   run-abreast zero g = g

@@ -8,18 +8,18 @@ use lib.ListN.{getD, set, take, drop, length, List·getD-append, length-append, 
 use lib.Seq.{getD-drop, length-take-le}
 use lib.Dec.{eqb, leb}
 use borrow.Author.Tests.{eq-eqb, ne-eqb, le-leb, lt-leb, le-ltb, eqb-true, leb-true, leb-false}
-use Rattle.rules.specs.World.{if_then_else_, Row, Event, State, World}
+use Rattle.rules.specs.World.{if_then_else_, Row, Event, World}
 use Rattle.rules.specs.Event.{step, answer}
 use Rattle.rules.specs.Trace.{two, lengthOf, pinEvent, eventAt, badPin, recordRefusal, answerByte, Progress, progressOf, turn, run, Pieces}
 use Rattle.rules.proofs.Choice.{if-elim, if-both}
-use Rattle.rules.proofs.Runs.{Ready, ready, turn-over, turn-does, run-stays, by-turn}
+use Rattle.rules.proofs.Runs.{Ready, ready, refusedNext, turn-over, turn-does, run-stays, by-turn}
 
 -- No turn takes a record back.
 turn-done : (row : Row) (t : List ℕ) (p : Progress) → p .done ≤ turn row t p .done
 unfolding turn
 turn-done row t p =
     let over = not (eqb (p .number) 0) || leb (length t) (p .taken) in
-    let n = if over then p .number else recordRefusal t (p .taken) (leb (length (p .answers)) (p .done)) (p .world .state) in
+    let n = if over then p .number else refusedNext row t p in
     if-elim (λ (k : ℕ). p .done ≤ k) (not over && eqb n 0) (λ _. omega arith) (λ _. omega arith)
 
 run-done : (k : ℕ) (row : Row) (t : List ℕ) (p : Progress) → p .done ≤ run k row t p .done
@@ -27,7 +27,7 @@ run-done zero row t p = omega arith
 run-done (suc k) row t p = omega (arith, turn-done row t p, run-done k row t (turn row t p))
 
 -- A record that is done in the first piece is done in the same way in the whole trace.
-module _ (a b : List ℕ) (at : ℕ) (full : Bool) (s : State) (f : Ready a at full s) where
+module _ {row : Row} (a b : List ℕ) {at : ℕ} {full : Bool} {w : World} (f : Ready row a at full w) where
   same-byte : (i : ℕ) → i < length a → getD (a ++ b) i 0 ≡ getD a i 0
   same-byte i h = List·getD-append a b 0 i h
 
@@ -60,11 +60,15 @@ module _ (a b : List ℕ) (at : ℕ) (full : Bool) (s : State) (f : Ready a at f
       (λ e. let h = long 2 (eqb-true (two a (at + 2)) 2 e) in ap Event.Wait (rw (same-two (at + 4) (omega (arith, h)), same-two (at + 4 + 2) (omega (arith, h)))))
       (λ _. refl)))
 
-  same-refusal : recordRefusal (a ++ b) at full s ≡ 0
+  same-refusal : recordRefusal row (a ++ b) at full w ≡ 0
   unfolding recordRefusal
   same-refusal =
       let more : length (a ++ b) ≡ length a + length b = length-append a b in
-      rw (same-kind, same-size, same-pin, le-ltb (length (a ++ b) - at) 4 (omega (arith, more, f .head)), ne-eqb (lengthOf (two a (at + 2))) 0 (f .known), eq-eqb (two a at) (lengthOf (two a (at + 2))) (f .size), le-ltb (length (a ++ b) - at) (2 + two a at) (omega (arith, more, f .body)), f .room, same-event, f .taken)
+      let left = length (a ++ b) - at in
+      let right = lengthOf (two a (at + 2)) in
+      let head = le-ltb left 4 (omega (arith, more, f .head)) in
+      let body = le-ltb left (2 + two a at) (omega (arith, more, f .body)) in
+      rw (same-kind, same-size, same-pin, head, ne-eqb right 0 (f .known), eq-eqb (two a at) right (f .size), body, f .room, same-event, f .taken)
 
 -- A run stays within its trace and its answer bytes.
 abbrev Within : List ℕ → Progress → Type 0
@@ -74,7 +78,7 @@ turn-within : (row : Row) (t : List ℕ) (p : Progress) → Within t p → Withi
 turn-within row t p =
     by-turn row t (λ (p q : Progress). Within t p → Within t q) p (λ _ _ i. i) (λ r _ _ _ _ i. i)
     (λ u v z h r _ i.
-    let f = ready t (p .taken) (leb (length (p .answers)) (p .done)) (p .world .state) r in
+    let f = ready r in
     (omega (arith, f .body, h), omega (arith, leb-false (length (p .answers)) (p .done) (f .room), length-set (p .answers) (p .done) v)))
 
 run-within : (k : ℕ) (row : Row) (t : List ℕ) (p : Progress) → Within t p → Within t (run k row t p)
@@ -93,17 +97,14 @@ module _ (row : Row) (a b : List ℕ) (m : ℕ) where
   stopped : (p q : Progress) → q .done ≡ p .done → p ≡ resumed q → Passes p q
   stopped p q e f = let none : q .done - p .done + m ≡ m = omega (arith, e) in ap (λ (j : ℕ). run j row (a ++ b) p) none ∙ ap (run m row (a ++ b)) f
 
-  same-turn : (p : Progress) → p .number ≡ 0 → p .taken < length a → recordRefusal a (p .taken) (leb (length (p .answers)) (p .done)) (p .world .state) ≡ 0 → turn row (a ++ b) p ≡ turn row a p
+  same-turn : (p : Progress) → p .number ≡ 0 → p .taken < length a → refusedNext row a p ≡ 0 → turn row (a ++ b) p ≡ turn row a p
   same-turn p z h r =
       let at = p .taken in
-      let full = leb (length (p .answers)) (p .done) in
-      let s = p .world .state in
-      let f = ready a at full s r in
-      let u = step row (eventAt a at) (p .world) in
+      let f = ready r in
       let shape : p ≡ progressOf 0 at (p .done) (p .world) (p .answers) = ap (λ (n : ℕ). progressOf n at (p .done) (p .world) (p .answers)) z in
       ap (turn row (a ++ b)) shape
-      ∙ sym (turn-does row (a ++ b) at (p .done) (p .world) (p .answers) (omega (arith, h, length-append a b)) (two a at) _ (eventAt a at) u (same-refusal a b at full s f) (sym (same-size a b at full s f)) (sym (same-event a b at full s f)) refl refl)
-      ∙ turn-does row a at (p .done) (p .world) (p .answers) h (two a at) _ (eventAt a at) u r refl refl refl refl
+      ∙ sym (turn-does row (a ++ b) (p .done) (p .world) (p .answers) (omega (arith, h, length-append a b)) (same-refusal a b f) (sym (same-size a b f)) (sym (same-event a b f)) refl refl)
+      ∙ turn-does row a (p .done) (p .world) (p .answers) h r refl refl refl refl
       ∙ ap (turn row a) (sym shape)
 
   passes : (k : ℕ) (p : Progress) → p .number ≡ 0 → Passes p (run k row a p)
@@ -163,9 +164,9 @@ module _ (l : List ℕ) (t : ℕ) (h : t ≤ length l) where
       let e6 : t + (i + 4) + 2 ≡ t + (i + 4 + 2) = omega arith in
       rw (e2, e4, e6, two-there (i + 2), two-there (i + 4), two-there (i + 4 + 2), there (i + 4))
 
-  refusal-there : (i : ℕ) (full : Bool) (s : State) → recordRefusal l (t + i) full s ≡ recordRefusal (drop t l) i full s
+  refusal-there : (row : Row) (i : ℕ) (full : Bool) (w : World) → recordRefusal row l (t + i) full w ≡ recordRefusal row (drop t l) i full w
   unfolding recordRefusal
-  refusal-there i full s =
+  refusal-there row i full w =
       let e2 : t + i + 2 ≡ t + (i + 2) = omega arith in
       let e4 : t + i + 4 ≡ t + (i + 4) = omega arith in
       rw (e2, e4, left-there i, two-there i, two-there (i + 2), there (i + 4), event-there i)
@@ -186,9 +187,9 @@ module _ (l : List ℕ) (t : ℕ) (h : t ≤ length l) where
       let full = leb (length (p .answers)) (p .done) in
       let room : leb (length (xs ++ p .answers)) (length xs + p .done) ≡ full = full-there xs (p .answers) (p .done) in
       let over = not (eqb (p .number) 0) || leb (length (drop t l)) (p .taken) in
-      let n = if over then p .number else recordRefusal (drop t l) (p .taken) full (p .world .state) in
+      let n = if over then p .number else refusedNext row (drop t l) p in
       let u = step row (eventAt (drop t l) (p .taken)) (p .world) in
-      rw (over-there (p .taken), room, refusal-there (p .taken) full (p .world .state), event-there (p .taken), two-there (p .taken))
+      rw (over-there (p .taken), room, refusal-there row (p .taken) full (p .world), event-there (p .taken), two-there (p .taken))
       (push xs (not over && eqb n 0) n (p .taken) (p .done) (two (drop t l) (p .taken)) (answerByte (answer (u .state))) u (p .world) (p .answers))
 
   run-further : (m : ℕ) (row : Row) (xs : List ℕ) (p : Progress) → run m row l (further t xs p) ≡ further t xs (run m row (drop t l) p)

@@ -2,7 +2,7 @@
 use Prim.Native.Nat.{ℕ, _+_, _*_, _≤_, _<_}
 use mathlib.Core.Path.{_≡_, refl, sym, ap, _∙_}
 use mathlib.Core.Bool.{Bool, true, false, not, _&&_}
-use mathlib.Core.List.{List}
+use mathlib.Core.List.{List, [], _∷_}
 use native.Mathlib.Omega.{arith}
 use lib.ListN.{length, getD}
 use lib.Dec.{eqb, leb, lit<}
@@ -14,7 +14,7 @@ use Rattle.rules.specs.Receive.{risen, risenLatch}
 use Rattle.rules.specs.Send.{isSending, fallen}
 use Rattle.rules.specs.Judge.{storable, isDone, judged}
 use Rattle.rules.specs.Cycle.{waitedState, waited}
-use Rattle.rules.specs.Event.{pinsAfter, deselected, powered, decodes, react, settled, step}
+use Rattle.rules.specs.Event.{pinsAfter, deselected, powered, decodes, react, settled, step, refusal, next, after}
 use Rattle.rules.specs.Sound.{SoundInput, SoundCycle, Unsettled, Sound, Lent, Preserved}
 use Rattle.rules.proofs.Choice.{if-elim, if-within, clash, and-right, and-rest, or-left}
 use Rattle.rules.proofs.Widths.{page-below}
@@ -216,8 +216,14 @@ module _ (row : Row) (w : World) (n : ℕ) where
   wait-lent l =
       let s = w .state in
       record {
-        cells = if-elim (λ (m : List ℕ). length m ≡ row .cells) (ends && changes (s .cycle .kind) .cells) (λ _. written-long (row .page) (row .page) (w .latch) (s .place .start) (w .cells) ∙ l .cells) (λ _. l .cells);
-        identification = if-elim (λ (m : List ℕ). length m ≡ row .page) (ends && changes (s .cycle .kind) .identification) (λ _. written-long (row .page) (row .page) (w .latch) 0 (w .identification) ∙ l .identification) (λ _. l .identification);
+        cells =
+            if-elim (λ (m : List ℕ). length m ≡ row .cells) (ends && changes (s .cycle .kind) .cells)
+            (λ _. written-long (row .page) (row .page) (w .latch) (s .place .start) (w .cells) ∙ l .cells)
+            (λ _. l .cells);
+        identification =
+            if-elim (λ (m : List ℕ). length m ≡ row .page) (ends && changes (s .cycle .kind) .identification)
+            (λ _. written-long (row .page) (row .page) (w .latch) 0 (w .identification) ∙ l .identification)
+            (λ _. l .identification);
         latch = l .latch;
       }
 
@@ -253,3 +259,13 @@ pub preserved : Preserved
 unfolding step
 preserved row v e w h l =
     (settled-sound (unheld-sound v e w (h .unsettled) l), kept-lent _ (unheld-lent v e w (h .unsettled) l))
+
+-- Whatever an event does or is refused with, a sound world stays sound; and so through a run.
+module _ {row : Row} (v : Widths row) where
+  pub next-sound : (e : Event) (w : World) → Sound row w → Lent row w → Sound row (next row e w) × Lent row (next row e w)
+  unfolding next
+  next-sound e w k l = if-elim (λ (x : World). Sound row x × Lent row x) (eqb (refusal row e w) 0) (λ _. preserved row v e w k l) (λ _. (k, l))
+
+  pub after-sound : (es : List Event) (w : World) → Sound row w → Lent row w → Sound row (after row es w) × Lent row (after row es w)
+  after-sound [] w k l = (k, l)
+  after-sound (e ∷ es) w k l = let n = next-sound e w k l in after-sound es (next row e w) (n .0) (n .1)

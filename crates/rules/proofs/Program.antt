@@ -25,7 +25,10 @@ pub world-taken : (device : ℕ) (w : World) → isDevice device ≡ true → So
 unfolding worldRefusal lentRefusal
 world-taken device w d s l =
     let row = rowOf device in
-    rw (d, eq-eqb (length (w .cells)) (row .cells) (l .cells), eq-eqb (length (w .identification)) (row .page) (l .identification), eq-eqb (length (w .latch)) (row .page + row .page) (l .latch), reads row w .1 s)
+    let cells = eq-eqb (length (w .cells)) (row .cells) (l .cells) in
+    let page = eq-eqb (length (w .identification)) (row .page) (l .identification) in
+    let latch = eq-eqb (length (w .latch)) (row .page + row .page) (l .latch) in
+    rw (d, cells, page, latch, reads row w .1 s)
 
 -- And a world that is not refused is of a device, has buffers of its lengths, and is sound.
 module _ (device : ℕ) (w : World) where
@@ -71,7 +74,8 @@ module _ (device : ℕ) (trace : List ℕ) (d : isDevice device ≡ true) where
   bench-course =
       let v = of-device device in
       subst (Course (rowOf device) trace (length trace) (length trace)) (sym bench-runs)
-      (course (rowOf device) v trace (length trace) (le-refl (length trace)) (prepared (rowOf device)) (replicate (length trace) 0) (prepared-sound v) (prepared-lent v) (length-replicate (length trace) 0) (length trace))
+      (course (rowOf device) v trace (length trace) (le-refl (length trace)) (prepared (rowOf device)) (replicate (length trace) 0)
+      (prepared-sound v) (prepared-lent v) (length-replicate (length trace) 0) (length trace))
 
   pub bench-uncut : spec.Uncut trace (spec.benchRun device trace)
   bench-uncut = uncut (rowOf device) trace (length trace) (length trace) (spec.benchRun device trace) (le-refl (length trace)) bench-course

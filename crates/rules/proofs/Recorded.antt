@@ -19,7 +19,8 @@ use Rattle.rules.proofs.Encoded.{byteOf, first-taken, rest-runs, run-re
 use Rattle.rules.proofs.Incident.{prepared-sound, prepared-lent, incident}
 use Rattle.rules.proofs.Lookalike.{Lookalike, abreast, run-abreast, abreast-seen}
 use Rattle.rules.proofs.Program.{world-taken, world-facts}
-use Rattle.rules.proofs.Selections.{after-sound, demand-3}
+use Rattle.rules.proofs.Preserved.{after-sound}
+use Rattle.rules.proofs.Selections.{demand-3}
 use Rattle.rules.proofs.Widths.{of-device}
 
 pub demand-3-devices : Demand3Devices
@@ -46,8 +47,8 @@ left-runs Cut.done t h r = refl
 left-runs {row} {w} (Cut.keep {es = es} {ks = ks} e c) t h r =
     let first : visible row e w ≡ visible row e t = cc in
     let rest : heard c ≡ heardLeft c (next row e t) = cc in
-    let taken : (fits e && eqb (refusal e (t .state)) 0) ≡ true = rw (← (ap (λ (v : Visible). v .0) first)) (first-taken row e es w r) in
-    and-both (fits e && eqb (refusal e (t .state)) 0) (runnable row ks (next row e t)) taken (left-runs c (next row e t) rest (rest-runs row e es w r))
+    let taken : (fits e && eqb (refusal row e t) 0) ≡ true = rw (← (ap (λ (v : Visible). v .0) first)) (first-taken row e es w r) in
+    and-both (fits e && eqb (refusal row e t) 0) (runnable row ks (next row e t)) taken (left-runs c (next row e t) rest (rest-runs row e es w r))
 left-runs {row} {w} (Cut.drop {es = es} {ks = ks} {kept = kept} o s i b c) t h r =
     inside-runs row i (Event.Select true ∷ es) ks (next row (Event.Select false) w) t r (λ q. left-runs c (after row kept t) h q)
 

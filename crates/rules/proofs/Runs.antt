@@ -1,16 +1,16 @@
 -- Laws on a record that is not refused, on one turn of a run, and on the whole of it.
 use Prim.Native.Nat.{ℕ, zero, suc, _+_, _-_, _*_, _≤_, _<_}
 use mathlib.Core.Path.{_≡_, refl, sym, ap, _∙_, subst}
-use mathlib.Core.Bool.{Bool, true, false, not, _&&_, _||_}
+use mathlib.Core.Bool.{Bool, true, false, not, _||_}
 use mathlib.Core.List.{List}
 use native.Mathlib.Omega.{arith}
 use lib.ListN.{set, length, length-set}
 use lib.Dec.{eqb, leb, ltb}
 use borrow.Author.Tests.{ne-eqb, lt-leb, eqb-true, eqb-false, leb-true, leb-false, ltb-false, not-false}
-use Rattle.rules.specs.World.{Row, Event, State, World}
+use Rattle.rules.specs.World.{Row, Event, World}
 use Rattle.rules.specs.Device.{Widths}
 use Rattle.rules.specs.Instruction.{busy}
-use Rattle.rules.specs.Event.{step, answer, isPower, refusal}
+use Rattle.rules.specs.Event.{step, answer, refusal}
 use Rattle.rules.specs.Sound.{Sound, Lent}
 use Rattle.rules.specs.Trace.{two, lengthOf, eventAt, badPin, recordRefusal, answerByte, Progress, progressOf, turn, run}
 use Rattle.rules.specs.Program.{Uncut}
@@ -18,21 +18,21 @@ use Rattle.rules.proofs.Choice.{if-elim, clash}
 use Rattle.rules.proofs.Preserved.{preserved}
 
 -- What is known of a record that is not refused.
-pub record Ready (t : List ℕ) (at : ℕ) (full : Bool) (s : State) : Type 0 where
+pub record Ready (row : Row) (t : List ℕ) (at : ℕ) (full : Bool) (w : World) : Type 0 where
   pub head : 4 ≤ length t - at
   pub known : lengthOf (two t (at + 2)) ≡ 0 → ⊥
   pub size : two t at ≡ lengthOf (two t (at + 2))
   pub body : 2 + two t at ≤ length t - at
   pub pin : badPin t at (two t (at + 2)) ≡ false
   pub room : full ≡ false
-  pub taken : refusal (eventAt t at) s ≡ 0
+  pub taken : refusal row (eventAt t at) w ≡ 0
 
-pub ready : (t : List ℕ) (at : ℕ) (full : Bool) (s : State) → recordRefusal t at full s ≡ 0 → Ready t at full s
+pub ready : {row : Row} {t : List ℕ} {at : ℕ} {full : Bool} {w : World} → recordRefusal row t at full w ≡ 0 → Ready row t at full w
 unfolding recordRefusal
-ready t at full s =
+ready {row} {t} {at} {full} {w} =
     let left = length t - at in
     let kind = two t (at + 2) in
-    let P : ℕ → Type 0 = λ (n : ℕ). n ≡ 0 → Ready t at full s in
+    let P : ℕ → Type 0 = λ (n : ℕ). n ≡ 0 → Ready row t at full w in
     if-elim P (ltb left 4) (λ _ e. absurd (omega arith))
     (λ h4. if-elim P (eqb (lengthOf kind) 0) (λ _ e. absurd (omega arith))
     (λ hk. if-elim P (not (eqb (two t at) (lengthOf kind))) (λ _ e. absurd (omega arith))
@@ -50,10 +50,19 @@ ready t at full s =
       taken = e;
     }))))))
 
--- 10 is given only where no answer byte is left.
-ten-full : (t : List ℕ) (at : ℕ) (full : Bool) (s : State) → recordRefusal t at full s ≡ 10 → full ≡ true
+-- 10 is given only where no answer byte is left: no event is refused with it.
+never-ten : (row : Row) (e : Event) (w : World) → refusal row e w ≡ 10 → ⊥
+never-ten row (Event.Clock b) w e = absurd (omega arith)
+never-ten row (Event.Data b) w e = absurd (omega arith)
+never-ten row (Event.Select b) w e = absurd (omega arith)
+never-ten row (Event.Hold b) w e = absurd (omega arith)
+never-ten row (Event.Protect b) w e = absurd (omega arith)
+never-ten row (Event.Wait n) w e = absurd (omega arith)
+never-ten row Event.Power w e = if-elim (λ (n : ℕ). n ≡ 10 → ⊥) (busy (w .state)) (λ _ e. absurd (omega arith)) (λ _ e. absurd (omega arith)) e
+
+ten-full : (row : Row) (t : List ℕ) (at : ℕ) {full : Bool} (w : World) → recordRefusal row t at full w ≡ 10 → full ≡ true
 unfolding recordRefusal
-ten-full t at full s =
+ten-full row t at {full} w =
     let left = length t - at in
     let kind = two t (at + 2) in
     let P : ℕ → Type 0 = λ (n : ℕ). n ≡ 10 → full ≡ true in
@@ -63,7 +72,7 @@ ten-full t at full s =
     (λ hs. if-elim P (ltb left (2 + two t at)) (λ _ e. absurd (omega arith))
     (λ hb. if-elim P (badPin t at kind) (λ _ e. absurd (omega arith))
     (λ hp. if-elim P full (λ hf _. hf)
-    (λ hf. if-elim P (isPower (eventAt t at) && busy s) (λ _ e. absurd (omega arith)) (λ _ e. absurd (omega arith))))))))
+    (λ hf e. absurd (never-ten row (eventAt t at) w e)))))))
 
 -- The kinds there are have lengths 2 to 6.
 pub length-small : (k : ℕ) → lengthOf k ≤ 6
@@ -80,20 +89,24 @@ length-least (suc (suc zero)) h = omega arith
 length-least (suc (suc (suc zero))) h = omega arith
 length-least (suc (suc (suc (suc k)))) h = absurd (h refl)
 
+-- What the next record of a run is refused with.
+abbrev pub refusedNext : Row → List ℕ → Progress → ℕ
+refusedNext row t p = recordRefusal row t (p .taken) (leb (length (p .answers)) (p .done)) (p .world)
+
 -- One turn: of a run that is over, at a record that is refused, and at one that is done.
 pub turn-over : (row : Row) (t : List ℕ) (p : Progress) → (not (eqb (p .number) 0) || leb (length t) (p .taken)) ≡ true → turn row t p ≡ p
 unfolding turn
 turn-over row t p e = rw e
 
-module _ (row : Row) (t : List ℕ) (at k : ℕ) (w : World) (a : List ℕ) (h : at < length t) where
-  pub turn-refused : (n : ℕ) → n ≡ recordRefusal t at (leb (length a) k) (w .state) → (n ≡ 0 → ⊥) → progressOf n at k w a ≡ turn row t (progressOf 0 at k w a)
+module _ (row : Row) (t : List ℕ) {at : ℕ} (k : ℕ) (w : World) (a : List ℕ) (h : at < length t) where
+  pub turn-refused : {n : ℕ} → n ≡ recordRefusal row t at (leb (length a) k) w → (n ≡ 0 → ⊥) → progressOf n at k w a ≡ turn row t (progressOf 0 at k w a)
   unfolding turn
-  turn-refused n e z = rw (lt-leb (length t) at h, ← e, ne-eqb n 0 z)
+  turn-refused {n} e z = rw (lt-leb (length t) at h, ← e, ne-eqb n 0 z)
 
-  pub turn-does : (size b : ℕ) (e : Event) (u : World) → recordRefusal t at (leb (length a) k) (w .state) ≡ 0 → size ≡ two t at → e ≡ eventAt t at → u ≡ step row e w → b ≡ answerByte (answer (u .state))
-      → progressOf 0 (at + 2 + size) (k + 1) u (set a k b) ≡ turn row t (progressOf 0 at k w a)
+  pub turn-does : {size b : ℕ} {e : Event} {u : World} → recordRefusal row t at (leb (length a) k) w ≡ 0 → size ≡ two t at → e ≡ eventAt t at → u ≡ step row e w
+      → b ≡ answerByte (answer (u .state)) → progressOf 0 (at + 2 + size) (k + 1) u (set a k b) ≡ turn row t (progressOf 0 at k w a)
   unfolding turn
-  turn-does size b e u r es ee eu eb = rw (lt-leb (length t) at h, r, es, eb, eu, ee)
+  turn-does r es ee eu eb = rw (lt-leb (length t) at h, r, es, eb, eu, ee)
 
 -- A run that is over stays.
 pub run-stays : (k : ℕ) (row : Row) (t : List ℕ) (p : Progress) → turn row t p ≡ p → run k row t p ≡ p
@@ -106,8 +119,8 @@ run-turn limit n row t p h = let e : limit - n ≡ suc (limit - (n + 1)) = omega
 -- One turn of any run, in the three ways that it can go.
 module _ (row : Row) (t : List ℕ) (P : Progress → Progress → Type 0) (p : Progress) where
   pub by-turn : ((p .number ≡ 0 → p .taken < length t → ⊥) → turn row t p ≡ p → P p p)
-      → ((r : ℕ) → p .number ≡ 0 → p .taken < length t → r ≡ recordRefusal t (p .taken) (leb (length (p .answers)) (p .done)) (p .world .state) → (r ≡ 0 → ⊥) → P p (progressOf r (p .taken) (p .done) (p .world) (p .answers)))
-      → ((u : World) (v : ℕ) → p .number ≡ 0 → p .taken < length t → recordRefusal t (p .taken) (leb (length (p .answers)) (p .done)) (p .world .state) ≡ 0 → u ≡ step row (eventAt t (p .taken)) (p .world)
+      → ((r : ℕ) → p .number ≡ 0 → p .taken < length t → r ≡ refusedNext row t p → (r ≡ 0 → ⊥) → P p (progressOf r (p .taken) (p .done) (p .world) (p .answers)))
+      → ((u : World) (v : ℕ) → p .number ≡ 0 → p .taken < length t → refusedNext row t p ≡ 0 → u ≡ step row (eventAt t (p .taken)) (p .world)
       → P p (progressOf 0 (p .taken + 2 + two t (p .taken)) (p .done + 1) u (set (p .answers) (p .done) v)))
       → P p (turn row t p)
   by-turn over refused does = ends (eqb (p .number) 0) refl (leb (length t) (p .taken)) refl
@@ -115,14 +128,14 @@ module _ (row : Row) (t : List ℕ) (P : Progress → Progress → Type 0) (p : 
       stays : (p .number ≡ 0 → p .taken < length t → ⊥) → (not (eqb (p .number) 0) || leb (length t) (p .taken)) ≡ true → P p (turn row t p)
       stays n e = let o = turn-over row t p e in subst (P p) (sym o) (over n o)
 
-      goes : p .number ≡ 0 → p .taken < length t → (r : ℕ) → recordRefusal t (p .taken) (leb (length (p .answers)) (p .done)) (p .world .state) ≡ r → P p (turn row t p)
+      goes : p .number ≡ 0 → p .taken < length t → (r : ℕ) → refusedNext row t p ≡ r → P p (turn row t p)
       goes z h zero e =
           let shape : p ≡ progressOf 0 (p .taken) (p .done) (p .world) (p .answers) = ap (λ (m : ℕ). progressOf m (p .taken) (p .done) (p .world) (p .answers)) z in
-          let moved = turn-does row t (p .taken) (p .done) (p .world) (p .answers) h (two t (p .taken)) _ (eventAt t (p .taken)) (step row (eventAt t (p .taken)) (p .world)) e refl refl refl refl in
+          let moved = turn-does row t (p .done) (p .world) (p .answers) h e refl refl refl refl in
           subst (P p) (moved ∙ ap (turn row t) (sym shape)) (does _ _ z h e refl)
       goes z h (suc r) e =
           let shape : p ≡ progressOf 0 (p .taken) (p .done) (p .world) (p .answers) = ap (λ (m : ℕ). progressOf m (p .taken) (p .done) (p .world) (p .answers)) z in
-          let stopped = turn-refused row t (p .taken) (p .done) (p .world) (p .answers) h (suc r) (sym e) (λ x. absurd (omega arith)) ∙ ap (turn row t) (sym shape) in
+          let stopped = turn-refused row t (p .done) (p .world) (p .answers) h (sym e) (λ x. absurd (omega arith)) ∙ ap (turn row t) (sym shape) in
           subst (P p) stopped (refused (suc r) z h (sym e) (λ x. absurd (omega arith)))
 
       ends : (z : Bool) → eqb (p .number) 0 ≡ z → (b : Bool) → leb (length t) (p .taken) ≡ b → P p (turn row t p)
@@ -149,7 +162,7 @@ module _ (row : Row) (v : Widths row) (t : List ℕ) (room : ℕ) (enough : leng
     full : p .taken < length t → leb (length (p .answers)) (p .done) ≡ false
     full h = lt-leb (length (p .answers)) (p .done) (omega (arith, c .few, c .long, enough, h))
 
-    refused-course : (r : ℕ) → p .taken < length t → r ≡ recordRefusal t (p .taken) (leb (length (p .answers)) (p .done)) (p .world .state) → (r ≡ 0 → ⊥) → Course row t room (suc k) (progressOf r (p .taken) (p .done) (p .world) (p .answers))
+    refused-course : (r : ℕ) → p .taken < length t → r ≡ refusedNext row t p → (r ≡ 0 → ⊥) → Course row t room (suc k) (progressOf r (p .taken) (p .done) (p .world) (p .answers))
     refused-course r h e z =
         record {
           sound = c .sound;
@@ -157,14 +170,14 @@ module _ (row : Row) (v : Widths row) (t : List ℕ) (room : ℕ) (enough : leng
           few = c .few;
           inside = c .inside;
           long = c .long;
-          roomy = λ ten. clash (sym (ten-full t (p .taken) (leb (length (p .answers)) (p .done)) (p .world .state) (sym e ∙ ten)) ∙ full h);
+          roomy = λ ten. clash (sym (ten-full row t (p .taken) (p .world) (sym e ∙ ten)) ∙ full h);
           counted = λ o _. absurd (z o);
         }
 
-    does-course : (u : World) (b : ℕ) → p .number ≡ 0 → p .taken < length t → recordRefusal t (p .taken) (leb (length (p .answers)) (p .done)) (p .world .state) ≡ 0 → u ≡ step row (eventAt t (p .taken)) (p .world)
+    does-course : (u : World) (b : ℕ) → p .number ≡ 0 → p .taken < length t → refusedNext row t p ≡ 0 → u ≡ step row (eventAt t (p .taken)) (p .world)
         → Course row t room (suc k) (progressOf 0 (p .taken + 2 + two t (p .taken)) (p .done + 1) u (set (p .answers) (p .done) b))
     does-course u b z h r eu =
-        let f = ready t (p .taken) (leb (length (p .answers)) (p .done)) (p .world .state) r in
+        let f = ready r in
         let two-least : 2 ≤ two t (p .taken) = subst (λ (m : ℕ). 2 ≤ m) (sym (f .size)) (length-least (two t (p .taken + 2)) (f .known)) in
         let kept = preserved row v (eventAt t (p .taken)) (p .world) (c .sound) (c .lent) in
         record {

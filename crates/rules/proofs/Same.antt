@@ -1,6 +1,6 @@
 -- Two worlds that no one can tell apart: equal but for the latch where nothing will use it and, while deselected, what the last selection left.
 use Prim.Native.Nat.{ℕ, _+_, _*_}
-use mathlib.Core.Path.{_≡_, refl, sym, ap, _∙_, subst₂}
+use mathlib.Core.Path.{_≡_, refl, sym, ap, _∙_, subst}
 use mathlib.Core.Bool.{Bool, true, false, not, _&&_, _||_}
 use mathlib.Core.List.{List}
 use native.Mathlib.Nat.{mod-lt}
@@ -79,12 +79,14 @@ module _ {row : Row} (v : Widths row) (w : World) (long : length (w .latch) ≡ 
       let s = w .state in
       let i = s .command .instruction in
       let a = s .place .address in
+      let locks = latches (facts i .lock) in
+      let here = not (s .command .away) in
       rw e
       (λ u.
       let before : uses s ≡ true =
       or-map (holdsLatch (s .cycle .kind)) _ (commandUses (s .command))
-      (if-elim (λ (j : Instruction). (latches j && not (s .command .away)) ≡ true → commandUses (s .command) ≡ true) (isLast row s && lockBit row (longer row a b))
-      (λ _ t. and-both (latches i) (not (s .command .away)) (lock-form i .1 (and-left (latches (facts i .lock)) (not (s .command .away)) t)) (and-right (latches (facts i .lock)) (not (s .command .away)) t))
+      (if-elim (λ (j : Instruction). (latches j && here) ≡ true → commandUses (s .command) ≡ true) (isLast row s && lockBit row (longer row a b))
+      (λ _ t. and-both (latches i) here (lock-form i .1 (and-left locks here t)) (and-right locks here t))
       (λ _ t. t))
       u in
       if-both (Agree row) (isLatched row s) (λ _. marked-agree row (w .latch) l a b (omega arith) n (mod-lt a (page-positive v)) (h before)) (λ _. h before))
@@ -154,8 +156,11 @@ select-same {row} true (same w l n h) =
     same (unheld row (Event.Select true) w) l n (λ u. h (risen-uses row (w .state) (w .state .selection .selected && not (w .state .pins .s)) u))
 select-same {row} true (off w l x y n h) = off (pinned (Event.Select true) w) l x y n h
 select-same {row} false (same w l n h) =
+    let holds = holdsLatch (w .state .cycle .kind) in
     same (unheld row (Event.Select false) w) l n
-    (λ u. h (if-elim (λ (s : State). uses s ≡ true → uses (w .state) ≡ true) (w .state .pins .s) (λ _ e. or-left (holdsLatch (w .state .cycle .kind)) (commandUses (w .state .command)) (or-first (holdsLatch (w .state .cycle .kind)) false e refl)) (λ _ e. e) u))
+    (λ u. h (if-elim (λ (s : State). uses s ≡ true → uses (w .state) ≡ true) (w .state .pins .s)
+    (λ _ e. or-left holds (commandUses (w .state .command)) (or-first holds false e refl))
+    (λ _ e. e) u))
 select-same {row} false (off w l x y n h) =
     let p = pinsAfter (Event.Select false) (w .state .pins) in
     if-both (λ (a b : State). Same row (withState (withPins p a) w) (withState (withPins p b) (withLatch l w))) (w .state .pins .s)
@@ -174,18 +179,18 @@ module _ (row : Row) (w : World) (l : List ℕ) (n : ℕ) (h : holdsLatch (w .st
   ended = busy (w .state) && leb (w .state .place .left) n
 
   written-same : (b : Bool) (a : ℕ) (bytes : List ℕ) → (b ≡ true → holdsLatch (w .state .cycle .kind) ≡ true)
-      → (if ended && b then written (row .page) (row .page) (w .latch) a bytes else bytes) ≡ (if ended && b then written (row .page) (row .page) l a bytes else bytes)
+      → (if ended && b then written (row .page) (row .page) l a bytes else bytes) ≡ (if ended && b then written (row .page) (row .page) (w .latch) a bytes else bytes)
   written-same b a bytes f =
-      if-both (λ (x y : List ℕ). x ≡ y) (ended && b) (λ e. written-agree row (w .latch) l (h (f (and-right ended b e))) (row .page) (omega arith) a bytes) (λ _. refl)
+      if-both (λ (x y : List ℕ). x ≡ y) (ended && b) (λ e. sym (written-agree row (w .latch) l (h (f (and-right ended b e))) (row .page) (omega arith) a bytes)) (λ _. refl)
 
-  -- The same stored bytes come of it.
-  pub waited-bytes : (unheld row (Event.Wait n) w .cells ≡ unheld row (Event.Wait n) (withLatch l w) .cells)
-      × (unheld row (Event.Wait n) w .identification ≡ unheld row (Event.Wait n) (withLatch l w) .identification)
+  -- A latch that will write the same makes no difference but for itself.
+  pub waited-latch : unheld row (Event.Wait n) (withLatch l w) ≡ withLatch l (unheld row (Event.Wait n) w)
   unfolding react waitedState waited ended
-  waited-bytes =
-      let k = changes (w .state .cycle .kind) in (
-        written-same (k .cells) (w .state .place .start) (w .cells) (λ e. or-left (k .cells) (k .identification) e),
-        written-same (k .identification) 0 (w .identification) (λ e. or-right (k .cells) (k .identification) e),
+  waited-latch =
+      let k = changes (w .state .cycle .kind) in
+      rw (
+        written-same (k .cells) (w .state .place .start) (w .cells) (or-left (k .cells) (k .identification)),
+        written-same (k .identification) 0 (w .identification) (or-right (k .cells) (k .identification)),
       )
 
 wait-same : {row : Row} {w t : World} (n : ℕ) → Same row w t → Same row (unheld row (Event.Wait n) w) (unheld row (Event.Wait n) t)
@@ -193,15 +198,12 @@ unfolding react waitedState waited
 wait-same {row} n (same w l m h) =
     let s = w .state in
     let x = unheld row (Event.Wait n) w in
-    let e = waited-bytes row w l n (λ e. h (or-left (holdsLatch (s .cycle .kind)) (commandUses (s .command)) e)) in
-    subst₂ (λ (c i : List ℕ). Same row x (record { state = x .state; cells = c; identification = i; latch = l })) (e .0) (e .1)
+    subst (Same row x) (sym (waited-latch row w l n (λ e. h (or-left (holdsLatch (s .cycle .kind)) (commandUses (s .command)) e))))
     (same x l m (λ u. h (if-elim (λ (k : Kind). (holdsLatch k || commandUses (s .command)) ≡ true → uses s ≡ true) (busy s && leb (s .place .left) n)
     (λ _ e. or-right (holdsLatch (s .cycle .kind)) (commandUses (s .command)) e) (λ _ e. e) u)))
 wait-same {row} n (off w l x y m h) =
-    let s = w .state in
     let z = unheld row (Event.Wait n) w in
-    let e = waited-bytes row w l n h in
-    subst₂ (λ (c i : List ℕ). Same row (withState (idle x (z .state)) z) (record { state = idle y (z .state); cells = c; identification = i; latch = l })) (e .0) (e .1)
+    subst (Same row (withState (idle x (z .state)) z)) (sym (waited-latch row (withState (idle y (w .state)) w) l n h))
     (off z l x y m (λ u. h (waited-holds row w n u)))
 
 unheld-same : {row : Row} {w t : World} (e : Event) → Widths row → Lent row w → Same row w t → Same row (unheld row e w) (unheld row e t)
@@ -238,14 +240,20 @@ answer-same : {row : Row} {w t : World} → Same row w t → answer (w .state) �
 answer-same (same w l n h) = refl
 answer-same (off w l x y n h) = refl
 
-refusal-same : {row : Row} {w t : World} (e : Event) → Same row w t → refusal e (w .state) ≡ refusal e (t .state)
-refusal-same e (same w l n h) = refl
-refusal-same e (off w l x y n h) = refl
+refusal-same : {row : Row} {w t : World} (e : Event) → Same row w t → refusal row e w ≡ refusal row e t
+refusal-same (Event.Clock b) g = refl
+refusal-same (Event.Data b) g = refl
+refusal-same (Event.Select b) g = refl
+refusal-same (Event.Hold b) g = refl
+refusal-same (Event.Protect b) g = refl
+refusal-same (Event.Wait n) g = refl
+refusal-same Event.Power (same w l n h) = refl
+refusal-same Event.Power (off w l x y n h) = refl
 
 pub next-same : {row : Row} {w t : World} (e : Event) → Widths row → Lent row w → Same row w t → Same row (next row e w) (next row e t)
 unfolding next
 next-same {row} {w} {t} e v k g =
-    rw (← refusal-same e g) (if-both (Same row) (eqb (refusal e (w .state)) 0) (λ _. step-same e v k g) (λ _. g))
+    rw (← refusal-same e g) (if-both (Same row) (eqb (refusal row e w) 0) (λ _. step-same e v k g) (λ _. g))
 
 pub visible-same : {row : Row} {w t : World} (e : Event) → Widths row → Lent row w → Same row w t → visible row e w ≡ visible row e t
 visible-same {row} {w} {t} e v k g =

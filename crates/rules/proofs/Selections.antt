@@ -11,12 +11,12 @@ use Rattle.rules.specs.World.{Row, Kind, Level, Event, State, World, if_
 use Rattle.rules.specs.Device.{Widths}
 use Rattle.rules.specs.Instruction.{facts, holdsLatch}
 use Rattle.rules.specs.Judge.{allows, isWhole, isDone, judged}
-use Rattle.rules.specs.Event.{pinsAfter, selected, deselected, refusal, react, settled, step, next, after}
+use Rattle.rules.specs.Event.{pinsAfter, selected, deselected, react, settled, step, next, after}
 use Rattle.rules.specs.Sound.{Unsettled, Sound, Lent}
 use Rattle.rules.specs.Selections.{Visible, sights, Broken, Cut, done, keep, drop, heard, heardLeft, Demand3}
-use Rattle.rules.proofs.Choice.{if-elim, if-yes, and-both, or-left}
+use Rattle.rules.proofs.Choice.{if-yes, and-both, or-left}
 use Rattle.rules.proofs.Latch.{Agree}
-use Rattle.rules.proofs.Preserved.{pinned, preserved}
+use Rattle.rules.proofs.Preserved.{pinned, next-sound, after-sound}
 use Rattle.rules.proofs.Same.{Left, idle, commandUses, Same, same, off, contents-same, next-same, visible-same}
 use Rattle.rules.proofs.Inside.{In, twin, run-in}
 
@@ -112,7 +112,8 @@ start-in {row} {w} {t} k o p g =
     let s = w .state in
     let d = beside k o g in
     let low = pinsAfter (Event.Select false) (s .pins) in
-    let raised : withPins (pinsAfter (Event.Select true) (s .pins)) s ≡ s = ap (λ (b : Bool). withPins (record { c = s .pins .c; d = s .pins .d; s = b; hold = s .pins .hold; w = s .pins .w }) s) (sym p) in
+    let with-s : Bool → State = λ (b : Bool). withPins (record { c = s .pins .c; d = s .pins .d; s = b; hold = s .pins .hold; w = s .pins .w }) s in
+    let raised : withPins (pinsAfter (Event.Select true) (s .pins)) s ≡ s = ap with-s (sym p) in
     subst (λ (x : State). In row 0 (withState (settled (withPins low x)) w) t) (sym (if-yes (s .pins .s) (selected s) s p))
     (subst (In row 0 (withState (settled (withPins low (selected s))) w)) (ap (λ (x : State). withLatch (d .latch) (withState (idle (d .left) x) w)) raised ∙ sym (d .is))
     (twin (withState (settled (withPins low (selected s))) w) (d .latch) (d .left) (d .long) refl (record { bits = refl; bytes = λ _. refl }) (d .agree)))
@@ -123,33 +124,25 @@ after-append row [] fs w = refl
 after-append row (e ∷ es) fs w = after-append row es fs (next row e w)
 
 module _ {row : Row} (v : Widths row) where
-  pub next-sound : (e : Event) (w : World) → Sound row w → Lent row w → Sound row (next row e w) × Lent row (next row e w)
-  unfolding next
-  next-sound e w k l = if-elim (λ (x : World). Sound row x × Lent row x) (eqb (refusal e (w .state)) 0) (λ _. preserved row v e w k l) (λ _. (k, l))
-
-  pub after-sound : (es : List Event) (w : World) → Sound row w → Lent row w → Sound row (after row es w) × Lent row (after row es w)
-  after-sound [] w k l = (k, l)
-  after-sound (e ∷ es) w k l = let n = next-sound e w k l in after-sound es (next row e w) (n .0) (n .1)
-
   cut-same : {w t : World} {es ks : List Event} → Sound row w → Lent row w → Same row w t → (c : Cut row w es ks)
       → Same row (after row es w) (after row ks t) × (heard c ≡ heardLeft c t)
   unfolding heard heardLeft
   cut-same k l g done = (g, refl)
   cut-same {w} {t} k l g (keep e c) =
-      let n = next-sound e w k l in
+      let n = next-sound v e w k l in
       let r = cut-same (n .0) (n .1) (next-same e v l g) c in
       (r .0, ap₂ {A = Visible} {B = List Visible} {C = List Visible} _∷_ (visible-same e v l g) (r .1))
   cut-same {w} {t} k l g (drop {es = es} {ks = ks} {inner = inner} {kept = kept} o p i b c) =
-      let n = next-sound (Event.Select false) w k l in
+      let n = next-sound v (Event.Select false) w k l in
       let d = run-in v i (n .0) (n .1) (start-in (k .unsettled) o p g) in
-      let m = next-sound (Event.Select true) (after row inner (next row (Event.Select false) w)) (d .0) (d .1) in
+      let m = next-sound v (Event.Select true) (after row inner (next row (Event.Select false) w)) (d .0) (d .1) in
       let r = cut-same (m .0) (m .1) (end-in (d .0 .unsettled) b (d .2)) c in
       (subst₂ (Same row) (sym (after-append row inner (Event.Select true ∷ es) (next row (Event.Select false) w))) (sym (after-append row kept ks t)) (r .0), r .1)
 
   pub sights-same : {w t : World} (es : List Event) → Sound row w → Lent row w → Same row w t → sights row es w ≡ sights row es t
   sights-same [] k l g = refl
   sights-same {w} (e ∷ es) k l g =
-      let n = next-sound e w k l in
+      let n = next-sound v e w k l in
       ap₂ {A = Visible} {B = List Visible} {C = List Visible} _∷_ (visible-same e v l g) (sights-same es (n .0) (n .1) (next-same e v l g))
 
 pub demand-3 : Demand3

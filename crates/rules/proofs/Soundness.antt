@@ -11,21 +11,8 @@ use borrow.Author.Tests.{eqb-true, eqb-false, leb-true, ltb-true, eq-eqb, ne-eqb
 use Rattle.rules.specs.World.{Row, Level, World, if_then_else_}
 use Rattle.rules.specs.Instruction.{facts, changes, busy}
 use Rattle.rules.specs.Judge.{storable}
-use Rattle.rules.specs.Sound.{_implies_, all, isZ, areMarks, clauses, isSound, Sound, Reads}
-use Rattle.rules.proofs.Choice.{clash, and-left, and-right, and-both, or-rest}
-
--- A list of tests that all hold is a fact for each.
-abbrev Each : List Bool → Type 0
-Each [] = Unit
-Each (b ∷ bs) = (b ≡ true) × Each bs
-
-each : (bs : List Bool) → all bs ≡ true → Each bs
-each [] e = tt
-each (b ∷ bs) e = (and-left b (all bs) e, each bs (and-right b (all bs) e))
-
-all-of : (bs : List Bool) → Each bs → all bs ≡ true
-all-of [] e = refl
-all-of (b ∷ bs) e = and-both b (all bs) (e .0) (all-of bs (e .1))
+use Rattle.rules.specs.Sound.{_implies_, isZ, areMarks, clauses, isSound, Sound, Reads}
+use Rattle.rules.proofs.Choice.{clash, and-left, and-right, and-both, or-rest, each, all-of}
 
 -- Tests that are no numbers'.
 implied : (a b : Bool) → (a implies b) ≡ true → a ≡ true → b ≡ true
@@ -144,6 +131,8 @@ module _ (row : Row) (w : World) where
       let on = s .selection .selected in
       let h = k .unsettled in
       let off : (not on ≡ true → on ≡ false) = not-true on in
+      let turned = eqb (s .input .bytes) 0 || facts (s .command .instruction) .taken || s .command .away in
+      let settled = Bool·beq (s .selection .held) (not (s .pins .hold)) in
       all-of (clauses row (w .state) (w .latch)) (
         le-leb (s .input .bits) 7 (h .input .few),
         (
@@ -177,9 +166,9 @@ module _ (row : Row) (w : World) where
                                     (
                                       implying on (s .pins .w || s .selection .seen) (λ e. or-of (s .pins .w) (s .selection .seen) (h .saw e)),
                                       (
-                                        implying (busy s) (eqb (s .input .bytes) 0 || facts (s .command .instruction) .taken || s .command .away) (λ e. turned-of (s .input .bytes) (facts (s .command .instruction) .taken) (s .command .away) (h .turned e)),
+                                        implying (busy s) turned (λ e. turned-of (s .input .bytes) (facts (s .command .instruction) .taken) (s .command .away) (h .turned e)),
                                         (
-                                          implying on (s .pins .c || Bool·beq (s .selection .held) (not (s .pins .hold))) (λ e. or-of (s .pins .c) (Bool·beq (s .selection .held) (not (s .pins .hold))) (λ c. rw (k .holds e c) (beq-same (not (s .pins .hold))))),
+                                          implying on (s .pins .c || settled) (λ e. or-of (s .pins .c) settled (λ c. rw (k .holds e c) (beq-same (not (s .pins .hold))))),
                                           (
                                             marks-of (drop (row .page) (w .latch)) (λ i. rw (getD-drop (row .page) (w .latch) i 0) (h .marks i)),
                                             tt,

@@ -141,9 +141,20 @@ module _ (row : Row) (w : World) (start new : ℕ) (f : Filler) (h : changes (w 
   step-spent (Event.Wait n) = wait-spent n
   step-spent Event.Power = spent (step row Event.Power w) start new f h g
 
+refusal-spent : {w t : World} (row : Row) (e : Event) → Spent w t → refusal row e w ≡ refusal row e t
+refusal-spent row (Event.Clock b) g = refl
+refusal-spent row (Event.Data b) g = refl
+refusal-spent row (Event.Select b) g = refl
+refusal-spent row (Event.Hold b) g = refl
+refusal-spent row (Event.Protect b) g = refl
+refusal-spent row (Event.Wait n) g = refl
+refusal-spent row Event.Power (spent w start new f h g) = refl
+
 next-spent : {w t : World} (row : Row) (e : Event) → Spent w t → Spent (next row e w) (next row e t)
 unfolding next
-next-spent row e (spent w start new f h g) = if-both Spent (eqb (refusal e (w .state)) 0) (λ _. step-spent row w start new f h g e) (λ _. spent w start new f h g)
+next-spent row e (spent w start new f h g) =
+    let g′ = spent w start new f h g in
+    rw (← refusal-spent row e g′) (if-both Spent (eqb (refusal row e w) 0) (λ _. step-spent row w start new f h g e) (λ _. g′))
 
 -- What is seen.
 answer-spent : {w t : World} → Spent w t → answer (w .state) ≡ answer (t .state)
@@ -152,11 +163,8 @@ answer-spent (spent w start new f h g) = refl
 pub contents-spent : {w t : World} → Spent w t → contents w ≡ contents t
 contents-spent (spent w start new f h g) = refl
 
-refusal-spent : {w t : World} (e : Event) → Spent w t → refusal e (w .state) ≡ refusal e (t .state)
-refusal-spent e (spent w start new f h g) = refl
-
 visible-spent : {w t : World} (row : Row) (e : Event) → Spent w t → visible row e w ≡ visible row e t
-visible-spent row e g = let m = next-spent row e g in rw (refusal-spent e g, answer-spent m, contents-spent m)
+visible-spent row e g = let m = next-spent row e g in rw (refusal-spent row e g, answer-spent m, contents-spent m)
 
 pub sights-spent : {w t : World} (row : Row) (es : List Event) → Spent w t → sights row es w ≡ sights row es t
 sights-spent row [] g = refl

@@ -1,53 +1,93 @@
 -- Facts on address width and page size, over the width; and that every row of the device table has the widths that they ask for.
-use Prim.Native.Nat.{ℕ, zero, suc, _+_, _-_, _*_, _/_, _%_, _^_, _<_}
+use Prim.Native.Nat.{ℕ, zero, suc, _+_, _-_, _*_, _/_, _%_, _^_, _≤_, _<_}
 use mathlib.Core.Path.{_≡_, refl, subst}
+use mathlib.Core.Bool.{Bool, true}
+use mathlib.Core.List.{List, [], _∷_, map}
 use native.Mathlib.Nat.{mod-lt, mul-mod-left, div-add-mod', div-lt-iff-lt-mul, mul-le-mul-right}
 use native.Mathlib.Omega.{arith}
 use lib.Pow.{pow-lt, pow-add}
-use lib.Dec.{T, leb, ltb, lit<, lit≤}
+use lib.Dec.{eqb, leb, ltb}
 use lib.ListN.{getD}
-use Rattle.rules.specs.World.{Row}
-use Rattle.rules.specs.Device.{Widths, table, m95040, m95128, m95m01, m95m02, rowOf}
+use borrow.Author.Tests.{eqb-true, leb-true, ltb-true}
+use Rattle.rules.specs.World.{if_then_else_, Row}
+use Rattle.rules.specs.Device.{Widths, single, table, m95040, rowOf}
 use Rattle.rules.specs.Instruction.{longer}
 use Rattle.rules.specs.Receive.{rolled}
+use Rattle.rules.specs.Sound.{all}
+use Rattle.rules.proofs.Choice.{and-left, and-right, each}
 
-made : (row : Row) (k p : ℕ) → row .cells ≡ 2 ^ k → row .page ≡ 2 ^ p → T (leb 3 (row .page)) → T (ltb p k) → T (leb k 24) → T (leb 1 (row .width)) → T (leb (row .width) 3) → T (leb 1 (row .time)) → Widths row
-made row k p c g three pk address one few time =
+-- How often a number can be halved: the exponent of a power of two, here at most 24.
+abbrev halvings : ℕ → ℕ → ℕ
+halvings zero n = 0
+halvings (suc most) n = if ltb 1 n then suc (halvings most (n / 2)) else 0
+
+-- The test of a row, a line for each fact of `Widths`.
+abbrev tests : Row → List Bool
+tests row =
+    let cellBits = halvings 24 (row .cells) in
+    let pageBits = halvings 24 (row .page) in
+    eqb (row .cells) (2 ^ cellBits)
+    ∷ eqb (row .page) (2 ^ pageBits)
+    ∷ leb (pageBits + 2) cellBits
+    ∷ leb cellBits 24
+    ∷ leb (row .cells) 16_777_216
+    ∷ leb 4 (row .page)
+    ∷ leb (row .page) 256
+    ∷ leb 1 (row .width)
+    ∷ leb (row .width) 3
+    ∷ leb (row .cells) (256 ^ row .width * (if single row then 2 else 1))
+    ∷ leb 1 (row .time)
+    ∷ ltb (row .time) (2 ^ 32)
+    ∷ []
+
+isWide : Row → Bool
+isWide row = all (tests row)
+
+-- A row that passes has the facts.
+widths : (row : Row) → isWide row ≡ true → Widths row
+unfolding isWide
+widths row e =
+    let h = each (tests row) e in
+    let bounds = h .1 .1 .1 .1 in
+    let address = bounds .1 .1 .1 in
     record {
-      cellBits = k;
-      pageBits = p;
-      cells = c;
-      page = g;
-      codeFits = lit≤ three;
-      smaller = lit< pk;
-      narrow = lit≤ address;
-      oneByte = lit≤ one;
-      threeBytes = lit≤ few;
-      lasts = lit≤ time;
+      cellBits = halvings 24 (row .cells);
+      pageBits = halvings 24 (row .page);
+      cells = eqb-true _ _ (h .0);
+      page = eqb-true _ _ (h .1 .0);
+      quarters = leb-true _ _ (h .1 .1 .0);
+      narrow = leb-true _ _ (h .1 .1 .1 .0);
+      cellsMost = leb-true _ _ (bounds .0);
+      pageLeast = leb-true _ _ (bounds .1 .0);
+      pageMost = leb-true _ _ (bounds .1 .1 .0);
+      oneByte = leb-true _ _ (address .0);
+      threeBytes = leb-true _ _ (address .1 .0);
+      reach = leb-true _ _ (address .1 .1 .0);
+      lasts = leb-true _ _ (address .1 .1 .1 .0);
+      soon = ltb-true _ _ (address .1 .1 .1 .1 .0);
     }
 
--- The table is read by place, so a row more in it is a line more here.
-entry : (i : ℕ) → Widths (getD table i m95040)
-entry zero = made m95040 9 4 refl refl tt tt tt tt tt tt
-entry (suc zero) = made m95128 14 6 refl refl tt tt tt tt tt tt
-entry (suc (suc zero)) = made m95m01 17 8 refl refl tt tt tt tt tt tt
-entry (suc (suc (suc zero))) = made m95m02 18 8 refl refl tt tt tt tt tt tt
-entry (suc (suc (suc (suc i)))) = made m95040 9 4 refl refl tt tt tt tt tt tt
+-- A row read from a list of rows that pass, passes; so one more in the table asks for nothing here.
+read-wide : (rows : List Row) → all (map isWide rows) ≡ true → (i : ℕ) (other : Row) → isWide other ≡ true → isWide (getD rows i other) ≡ true
+read-wide [] e i other h = h
+read-wide (row ∷ rows) e zero other h = and-left (isWide row) (all (map isWide rows)) e
+read-wide (row ∷ rows) e (suc i) other h = read-wide rows (and-right (isWide row) (all (map isWide rows)) e) i other h
 
 pub of-device : (n : ℕ) → Widths (rowOf n)
-of-device n = entry (n - 1)
+unfolding isWide
+of-device n = widths (rowOf n) (read-wide table refl (n - 1) m95040 refl)
 
 module _ {row : Row} (v : Widths row) where
   pub page-positive : 0 < row .page
-  page-positive = omega (arith, v .codeFits)
+  page-positive = omega (arith, v .pageLeast)
 
   pub page-below : row .page < row .cells
-  page-below = rw (v .page, v .cells) (pow-lt (v .smaller))
+  page-below = rw (v .page, v .cells) (pow-lt (omega (arith, v .quarters)))
 
   -- The cells are whole pages.
   pub pages : row .cells ≡ 2 ^ (v .cellBits - v .pageBits) * row .page
   pages =
-      let e : v .cellBits ≡ v .cellBits - v .pageBits + v .pageBits = omega (arith, v .smaller) in
+      let e : v .cellBits ≡ v .cellBits - v .pageBits + v .pageBits = omega (arith, v .quarters) in
       rw (v .cells, v .page, ← (pow-add 2 (v .cellBits - v .pageBits) (v .pageBits)), ← e)
 
   pub longer-inside : (a b : ℕ) → longer row a b < row .cells
@@ -65,3 +105,11 @@ pub start-aligned : (row : Row) (a : ℕ) → (a - a % row .page) % row .page �
 start-aligned row a =
     let e : a - a % row .page ≡ a / row .page * row .page = omega (arith, div-add-mod' a (row .page)) in
     rw e (mul-mod-left (a / row .page) (row .page))
+
+-- A page start leaves room for its page.
+pub page-room : {row : Row} → Widths row → (a : ℕ) → a % row .page ≡ 0 → a < row .cells → a + row .page ≤ row .cells
+page-room {row} v a e h =
+    let p = row .page in
+    let whole : a / p * p ≡ a = omega (arith, div-add-mod' a p) in
+    let less : a / p < 2 ^ (v .cellBits - v .pageBits) = div-lt-iff-lt-mul (page-positive v) .1 (subst (λ (n : ℕ). a < n) (pages v) h) in
+    omega (arith, mul-le-mul-right p less, pages v)

@@ -75,7 +75,7 @@ repliedAs number answer w = record { number = number; answer = answer; world = w
 
 unfoldable pub eventOutcome : ℕ → World → Event → Replied
 eventOutcome device w e =
-    let n = if not (eqb (worldRefusal device w) 0) then worldRefusal device w else refusal e (w .state) in
+    let n = if not (eqb (worldRefusal device w) 0) then worldRefusal device w else refusal (rowOf device) e w in
     let after = step (rowOf device) e w in
     record { number = n; answer = if eqb n 0 then answerByte (answer (after .state)) else 2; world = if eqb n 0 then after else w }
 

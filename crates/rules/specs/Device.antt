@@ -1,5 +1,6 @@
 -- The device table, and preparing a device.
-use Rattle.rules.specs.World.{ℕ, _-_, _*_, _^_, _≤_, _<_, _≡_, Bool, true, false, _&&_, List, [], _∷_, _++_, getD, length, replicate, eqb, leb, if_then_else_, Row, Instruction, Kind, Level, State, World}
+use Rattle.rules.specs.World.{ℕ, _+_, _-_, _*_, _^_, _≤_, _<_, _≡_, Bool, true, false, _&&_}
+use Rattle.rules.specs.World.{List, [], _∷_, _++_, getD, length, replicate, eqb, leb, if_then_else_, Row, Instruction, Kind, Level, State, World}
 
 -- 01, "What the bench models": one row for each device. `coded`: ST's code stands at the start of the identification page.
 abbrev pub m95040 : Row
@@ -28,18 +29,25 @@ rowOf n = getD table (n - 1) m95040
 abbrev pub single : Row → Bool
 single row = eqb (row .width) 1
 
--- The facts on a row that every theorem goes by: cells and pages are powers of two, and so on. No theorem asks for more.
+-- The facts on a row that every theorem goes by. No theorem asks for more, and every row of the table has them.
+-- Cells and pages are powers of two, and a quarter of the cells is whole pages; their bounds, as plain numbers too.
 pub record Widths (row : Row) : Type 0 where
   pub cellBits : ℕ
   pub pageBits : ℕ
   pub cells : row .cells ≡ 2 ^ cellBits
   pub page : row .page ≡ 2 ^ pageBits
-  pub codeFits : 3 ≤ row .page
-  pub smaller : pageBits < cellBits
+  pub quarters : pageBits + 2 ≤ cellBits
   pub narrow : cellBits ≤ 24
+  pub cellsMost : row .cells ≤ 16_777_216
+  pub pageLeast : 4 ≤ row .page
+  pub pageMost : row .page ≤ 256
+  -- The address bytes, with the code's address bit where there is one, reach every cell.
   pub oneByte : 1 ≤ row .width
   pub threeBytes : row .width ≤ 3
+  pub reach : row .cells ≤ 256 ^ row .width * (if single row then 2 else 1)
+  -- A write takes some time, and one that 32 bits hold.
   pub lasts : 1 ≤ row .time
+  pub soon : row .time < 2 ^ 32
 
 -- 01, "The device's state", preparing: no cycle, unlocked, C and D low, S, HOLD and W high.
 abbrev pub preparedState : State

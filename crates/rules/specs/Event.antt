@@ -1,5 +1,6 @@
 -- 01, "Events": each event, the hold rule after it, and what Q answers.
-use Rattle.rules.specs.World.{ℕ, Bool, true, false, not, _&&_, _||_, List, [], _∷_, eqb, if_then_else_, Row, Instruction, Level, Event, Pins, State, World, withPins, withSelection, withStored, withState, withLatch}
+use Rattle.rules.specs.World.{ℕ, Bool, true, false, not, _&&_, _||_}
+use Rattle.rules.specs.World.{List, [], _∷_, eqb, if_then_else_, Row, Instruction, Level, Event, Pins, State, World, withPins, withSelection, withStored, withState, withLatch}
 use Rattle.rules.specs.Instruction.{busy}
 use Rattle.rules.specs.Receive.{risen, risenLatch}
 use Rattle.rules.specs.Send.{fallen}
@@ -74,22 +75,19 @@ step row e w = let r = react row e w in withState (settled (withPins (pinsAfter 
 abbrev pub answer : State → Level
 answer s = if s .selection .held then Level.Z else s .output .q
 
--- Power during a cycle is refused with 11: nothing changes.
-abbrev pub isPower : Event → Bool
-isPower (Event.Clock b) = false
-isPower (Event.Data b) = false
-isPower (Event.Select b) = false
-isPower (Event.Hold b) = false
-isPower (Event.Protect b) = false
-isPower (Event.Wait n) = false
-isPower Event.Power = true
-
-abbrev pub refusal : Event → State → ℕ
-refusal e s = if isPower e && busy s then 11 else 0
+-- What an event is refused with, or 0, asked of the world before it: 11 for power during a cycle. Refused, it changes nothing.
+abbrev pub refusal : Row → Event → World → ℕ
+refusal row (Event.Clock b) w = 0
+refusal row (Event.Data b) w = 0
+refusal row (Event.Select b) w = 0
+refusal row (Event.Hold b) w = 0
+refusal row (Event.Protect b) w = 0
+refusal row (Event.Wait n) w = 0
+refusal row Event.Power w = if busy (w .state) then 11 else 0
 
 -- The world after an event, refused or not, and after any number of them.
 unfoldable pub next : Row → Event → World → World
-next row e w = if eqb (refusal e (w .state)) 0 then step row e w else w
+next row e w = if eqb (refusal row e w) 0 then step row e w else w
 
 abbrev pub after : Row → List Event → World → World
 after row [] w = w

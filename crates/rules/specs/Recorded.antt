@@ -53,7 +53,7 @@ fits Event.Power = true
 -- Whether a run can do them all: each fits its record, and none is refused when its turn comes.
 abbrev pub runnable : Row → List Event → World → Bool
 runnable row [] w = true
-runnable row (e ∷ es) w = fits e && eqb (refusal e (w .state)) 0 && runnable row es (next row e w)
+runnable row (e ∷ es) w = fits e && eqb (refusal row e w) 0 && runnable row es (next row e w)
 
 -- A run that did them all: no refusal, every byte taken, every record done.
 pub record Ended (es : List Event) (p : Progress) : Type 0 where

@@ -28,7 +28,7 @@ abbrev pub Visible : Type 0
 Visible = ℕ × Level × Contents
 
 abbrev pub visible : Row → Event → World → Visible
-visible row e w = let n = refusal e (w .state) in (n, if eqb n 0 then answer (next row e w .state) else Level.Z, contents (next row e w))
+visible row e w = let n = refusal row e w in (n, if eqb n 0 then answer (next row e w .state) else Level.Z, contents (next row e w))
 
 abbrev pub sights : Row → List Event → World → List Visible
 sights row [] w = []

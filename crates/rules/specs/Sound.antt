@@ -1,5 +1,6 @@
 -- 01, "The device's state": the sound states, as a test that runs, and as a record of facts that theorems use.
-use Rattle.rules.specs.World.{_++_, State, ℕ, _+_, _%_, _^_, _≤_, _<_, _≡_, Bool, true, false, not, _&&_, _||_, List, [], _∷_, getD, drop, length, eqb, leb, ltb, if_then_else_, Row, Kind, Level, Event, Selection, Input, Output, World}
+use Rattle.rules.specs.World.{_++_, State, ℕ, _+_, _%_, _^_, _≤_, _<_, _≡_, Bool, true, false, not, _&&_, _||_}
+use Rattle.rules.specs.World.{List, [], _∷_, getD, drop, length, eqb, leb, ltb, if_then_else_, Row, Kind, Level, Event, Selection, Input, Output, World}
 use mathlib.Core.Bool.{Bool·beq}
 use Rattle.rules.specs.Device.{Widths}
 use Rattle.rules.specs.Instruction.{facts, changes, busy}

@@ -1,5 +1,6 @@
 -- 01, "Traces": records, and running them within a limit.
-use Rattle.rules.specs.World.{ℕ, zero, suc, _+_, _-_, _*_, _/_, _≡_, Bool, not, _&&_, _||_, List, [], _∷_, _++_, getD, set, take, drop, length, eqb, leb, ltb, if_then_else_, bit, Row, Level, Event, State, World}
+use Rattle.rules.specs.World.{ℕ, zero, suc, _+_, _-_, _*_, _/_, _≡_, Bool, not, _&&_, _||_}
+use Rattle.rules.specs.World.{List, [], _∷_, _++_, getD, set, take, drop, length, eqb, leb, ltb, if_then_else_, bit, Row, Level, Event, World}
 use Rattle.rules.specs.Event.{step, answer, refusal}
 
 -- Little-endian numbers of two and four bytes.
@@ -32,8 +33,8 @@ abbrev pub badPin : List ℕ → ℕ → ℕ → Bool
 badPin t at kind = eqb kind 1 && ltb 9 (getD t (at + 4) 0)
 
 -- 01, "Numbers given back": what the record at a place is refused with, in 01's order, or 0. A record wants an answer byte.
-unfoldable pub recordRefusal : List ℕ → ℕ → Bool → State → ℕ
-recordRefusal t at full s =
+unfoldable pub recordRefusal : Row → List ℕ → ℕ → Bool → World → ℕ
+recordRefusal row t at full w =
     let left = length t - at in
     let kind = two t (at + 2) in
     if ltb left 4 then 6
@@ -42,7 +43,7 @@ recordRefusal t at full s =
     else if ltb left (2 + two t at) then 6
     else if badPin t at kind then 9
     else if full then 10
-    else refusal (eventAt t at) s
+    else refusal row (eventAt t at) w
 
 -- An answer byte: 0, 1, or 2 for Z.
 abbrev pub answerByte : Level → ℕ
@@ -65,7 +66,7 @@ progressOf number taken done w answers = record { number = number; taken = taken
 unfoldable pub turn : Row → List ℕ → Progress → Progress
 turn row t p =
     let over = not (eqb (p .number) 0) || leb (length t) (p .taken) in
-    let n = if over then p .number else recordRefusal t (p .taken) (leb (length (p .answers)) (p .done)) (p .world .state) in
+    let n = if over then p .number else recordRefusal row t (p .taken) (leb (length (p .answers)) (p .done)) (p .world) in
     let does = not over && eqb n 0 in
     let w = step row (eventAt t (p .taken)) (p .world) in
     record {

@@ -49,13 +49,46 @@ number false = 0
 
 -- The setters, the only places that name every field: the pins, what a selection makes anew, and what is stored or runs.
 abbrev pub withPins : Pins → State → State
-withPins p s = record { place = s .place; pins = p; selection = s .selection; input = s .input; command = s .command; output = s .output; registers = s .registers; cycle = s .cycle; filler = s .filler }
+withPins p s =
+    record {
+      place = s .place;
+      pins = p;
+      selection = s .selection;
+      input = s .input;
+      command = s .command;
+      output = s .output;
+      registers = s .registers;
+      cycle = s .cycle;
+      filler = s .filler;
+    }
 
 abbrev pub withSelection : ℕ → Selection → Input → Command → Output → State → State
-withSelection a x i c o s = record { place = record { address = a; start = s .place .start; left = s .place .left }; pins = s .pins; selection = x; input = i; command = c; output = o; registers = s .registers; cycle = s .cycle; filler = s .filler }
+withSelection a x i c o s =
+    record {
+      place = record { address = a; start = s .place .start; left = s .place .left };
+      pins = s .pins;
+      selection = x;
+      input = i;
+      command = c;
+      output = o;
+      registers = s .registers;
+      cycle = s .cycle;
+      filler = s .filler;
+    }
 
 abbrev pub withStored : Registers → Cycle → ℕ → ℕ → State → State
-withStored r c start left s = record { place = record { address = s .place .address; start = start; left = left }; pins = s .pins; selection = s .selection; input = s .input; command = s .command; output = s .output; registers = r; cycle = c; filler = s .filler }
+withStored r c start left s =
+    record {
+      place = record { address = s .place .address; start = start; left = left };
+      pins = s .pins;
+      selection = s .selection;
+      input = s .input;
+      command = s .command;
+      output = s .output;
+      registers = r;
+      cycle = c;
+      filler = s .filler;
+    }
 
 abbrev pub withState : State → World → World
 withState s w = record { state = s; cells = w .cells; identification = w .identification; latch = w .latch }

@@ -20,10 +20,10 @@ use Rattle.traces.specs.Quick.{IsPin}
 use Rattle.traces.proofs.Short.{pin-done}
 
 -- The turn of a record that is done, with any spelling of the place behind it and of the count.
-module _ (row : Row) (t : List ℕ) (at n : ℕ) (w : World) (a : List ℕ) (h : at < length t) where
-  pub turn-ends : (size b : ℕ) (e : Event) (u : World) → recordRefusal t at (leb (length a) n) (w .state) ≡ 0 → size ≡ two t at → e ≡ eventAt t at → u ≡ step row e w
+module _ (row : Row) (t : List ℕ) {at : ℕ} (n : ℕ) (w : World) (a : List ℕ) (h : at < length t) where
+  pub turn-ends : {size b : ℕ} {e : Event} {u : World} → recordRefusal row t at (leb (length a) n) w ≡ 0 → size ≡ two t at → e ≡ eventAt t at → u ≡ step row e w
       → b ≡ answerByte (answer (u .state)) → {next done : ℕ} → next ≡ at + 2 + size → done ≡ n + 1 → progressOf 0 next done u (set a n b) ≡ turn row t (progressOf 0 at n w a)
-  turn-ends size b e u r es ee eu eb en ed = rw (en, ed) (turn-does row t at n w a h size b e u r es ee eu eb)
+  turn-ends r es ee eu eb en ed = rw (en, ed) (turn-does row t n w a h r es ee eu eb)
 
 pub record Kept (row : Row) (t : List ℕ) (limit : ℕ) (w₀ : World) (a₀ : List ℕ) (w : World) (a : List ℕ) (at n : ℕ) : Type 0 where
   pub sound : Sound row w
@@ -32,7 +32,7 @@ pub record Kept (row : Row) (t : List ℕ) (limit : ℕ) (w₀ : World) (a₀ : 
   pub below : n ≤ limit
   pub same : run limit row t (progressOf 0 0 0 w₀ a₀) ≡ run (limit - n) row t (progressOf 0 at n w a)
 
-module _ (row : Row) (t : List ℕ) (limit : ℕ) (w₀ : World) (a₀ : List ℕ) (w : World) (a : List ℕ) (at n : ℕ) (k : Kept row t limit w₀ a₀ w a at n) where
+module _ {row : Row} {t : List ℕ} {limit : ℕ} {w₀ : World} {a₀ : List ℕ} {w : World} {a : List ℕ} {at n : ℕ} (k : Kept row t limit w₀ a₀ w a at n) where
   pub ends-trace : length t ≤ at → progressOf 0 at n w a ≡ run limit row t (progressOf 0 0 0 w₀ a₀)
   unfolding turn
   ends-trace h = sym (k .same ∙ run-stays (limit - n) row t (progressOf 0 at n w a) (rw (le-leb (length t) at h)))
@@ -40,9 +40,9 @@ module _ (row : Row) (t : List ℕ) (limit : ℕ) (w₀ : World) (a₀ : List �
   pub ends-limit : limit ≤ n → progressOf 0 at n w a ≡ run limit row t (progressOf 0 0 0 w₀ a₀)
   ends-limit h = let e : limit - n ≡ 0 = omega (arith, h, k .below) in sym (k .same ∙ ap (λ (m : ℕ). run m row t (progressOf 0 at n w a)) e)
 
-  pub ends-refused : (q : Progress) → n < limit → q ≡ turn row t (progressOf 0 at n w a) → (q .number ≡ 0 → ⊥) → q ≡ run limit row t (progressOf 0 0 0 w₀ a₀)
+  pub ends-refused : {q : Progress} → n < limit → q ≡ turn row t (progressOf 0 at n w a) → (q .number ≡ 0 → ⊥) → q ≡ run limit row t (progressOf 0 0 0 w₀ a₀)
   unfolding turn
-  ends-refused q h e z =
+  ends-refused {q} h e z =
       sym (k .same ∙ run-turn limit n row t (progressOf 0 at n w a) h ∙ ap (run (limit - (n + 1)) row t) (sym e) ∙ run-stays (limit - (n + 1)) row t q (rw (ne-eqb (q .number) 0 z)))
 
   module _ (v : Widths row) (inside : at < length t) (more : n < limit) where
@@ -50,40 +50,42 @@ module _ (row : Row) (t : List ℕ) (limit : ℕ) (w₀ : World) (a₀ : List �
     abbrev moved : Progress
     moved = let u = step row (eventAt t at) w in progressOf 0 (at + 2 + two t at) (n + 1) u (set a n (answerByte (answer (u .state))))
 
-    does : turn row t (progressOf 0 at n w a) .number ≡ 0 → recordRefusal t at (leb (length a) n) (w .state) ≡ 0
+    does : turn row t (progressOf 0 at n w a) .number ≡ 0 → recordRefusal row t at (leb (length a) n) w ≡ 0
     unfolding turn
-    does e = subst (λ (b : Bool). (if b then 0 else recordRefusal t at (leb (length a) n) (w .state)) ≡ 0) (lt-leb (length t) at inside) e
+    does e = subst (λ (b : Bool). (if b then 0 else recordRefusal row t at (leb (length a) n) w) ≡ 0) (lt-leb (length t) at inside) e
 
-    is-moved : (q : Progress) → q ≡ turn row t (progressOf 0 at n w a) → q .number ≡ 0 → q ≡ moved
-    is-moved q e z =
-        e ∙ sym (turn-does row t at n w a inside (two t at) _ (eventAt t at) (step row (eventAt t at) w) (does (ap (λ (x : Progress). x .number) (sym e) ∙ z)) refl refl refl refl)
+    is-moved : {q : Progress} → q ≡ turn row t (progressOf 0 at n w a) → q .number ≡ 0 → q ≡ moved
+    is-moved e z =
+        e ∙ sym (turn-does row t n w a inside (does (ap (λ (x : Progress). x .number) (sym e) ∙ z)) refl refl refl refl)
 
-    pub one-more : (q : Progress) → q ≡ turn row t (progressOf 0 at n w a) → q .number ≡ 0 → q .done ≡ n + 1
-    one-more q e z = ap (λ (x : Progress). x .done) (is-moved q e z)
+    pub one-more : {q : Progress} → q ≡ turn row t (progressOf 0 at n w a) → q .number ≡ 0 → q .done ≡ n + 1
+    one-more e z = ap (λ (x : Progress). x .done) (is-moved e z)
 
-    pub goes-on : (q : Progress) → q ≡ turn row t (progressOf 0 at n w a) → q .number ≡ 0 → Kept row t limit w₀ a₀ (q .world) (q .answers) (q .taken) (q .done)
-    goes-on q e z =
-        let m = is-moved q e z in
+    pub goes-on : {q : Progress} → q ≡ turn row t (progressOf 0 at n w a) → q .number ≡ 0 → Kept row t limit w₀ a₀ (q .world) (q .answers) (q .taken) (q .done)
+    goes-on {q} e z =
+        let m = is-moved e z in
         let p = preserved row v (eventAt t at) w (k .sound) (k .lent) in
-        let done : q .done ≡ n + 1 = one-more q e z in
+        let done : q .done ≡ n + 1 = one-more e z in
         let shape : q ≡ progressOf 0 (q .taken) (q .done) (q .world) (q .answers) = ap (λ (m : ℕ). progressOf m (q .taken) (q .done) (q .world) (q .answers)) z in
         record {
           sound = subst (λ (x : Progress). Sound row (x .world)) (sym m) (p .0);
           lent = subst (λ (x : Progress). Lent row (x .world)) (sym m) (p .1);
           long = ap (λ (x : Progress). length (x .answers)) m ∙ length-set a n _ ∙ k .long;
           below = omega arith;
-          same = k .same ∙ run-turn limit n row t (progressOf 0 at n w a) more ∙ ap (run (limit - (n + 1)) row t) (sym e ∙ shape) ∙ ap (λ (m : ℕ). run (limit - m) row t (progressOf 0 (q .taken) (q .done) (q .world) (q .answers))) (sym done);
+          same =
+              k .same ∙ run-turn limit n row t (progressOf 0 at n w a) more ∙ ap (run (limit - (n + 1)) row t) (sym e ∙ shape)
+              ∙ ap (λ (m : ℕ). run (limit - m) row t (progressOf 0 (q .taken) (q .done) (q .world) (q .answers))) (sym done);
         }
 
     -- A short way: a pin record with room, whose event does this.
-    pub pin-on : (p b : ℕ) (e : Event) (u : World) → IsPin t at p → p ≤ 9 → pinEvent p ≡ e → refusal e (w .state) ≡ 0 → ltb n (length a) ≡ true → u ≡ step row e w → b ≡ answerByte (answer (u .state))
+    pub pin-on : {p b : ℕ} {e : Event} {u : World} → IsPin t at p → p ≤ 9 → pinEvent p ≡ e → refusal row e w ≡ 0 → ltb n (length a) ≡ true → u ≡ step row e w → b ≡ answerByte (answer (u .state))
         → Kept row t limit w₀ a₀ u (set a n b) (at + 5) (n + 1)
-    pin-on p b e u h le ep z room eu eb =
+    pin-on {p} {b} {e} {u} h le ep z room eu eb =
         let full : leb (length a) n ≡ false = lt-leb (length a) n (ltb-true n (length a) room) in
-        let d = pin-done (w .state) h le (rw ep z) in
-        let r : recordRefusal t at (leb (length a) n) (w .state) ≡ 0 = rw full (d .0) in
-        let q : progressOf 0 (at + 2 + 3) (n + 1) u (set a n b) ≡ turn row t (progressOf 0 at n w a) = turn-does row t at n w a inside 3 b e u r (sym (h .size)) (sym ep ∙ d .1) eu eb in
-        subst (λ (m : ℕ). Kept row t limit w₀ a₀ u (set a n b) m (n + 1)) (omega arith) (goes-on (progressOf 0 (at + 2 + 3) (n + 1) u (set a n b)) q refl)
+        let d = pin-done row w h le (rw ep z) in
+        let r : recordRefusal row t at (leb (length a) n) w ≡ 0 = rw full (d .0) in
+        let q : progressOf 0 (at + 2 + 3) (n + 1) u (set a n b) ≡ turn row t (progressOf 0 at n w a) = turn-does row t n w a inside r (sym (h .size)) (sym ep ∙ d .1) eu eb in
+        subst (λ (m : ℕ). Kept row t limit w₀ a₀ u (set a n b) m (n + 1)) (omega arith) (goes-on q refl)
 
 pub data-pin : (v : Bool) → pinEvent (2 + number v) ≡ Event.Data v
 data-pin true = refl

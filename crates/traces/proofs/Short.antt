@@ -8,12 +8,13 @@ use lib.ListN.{getD, length}
 use lib.Dec.{eqb, ltb}
 use borrow.Author.Tests.{eqb-true, eq-eqb, ne-eqb, le-ltb, not-true, not-false}
 use Rattle.rules.specs.declared.Row.{Row}
+use Rattle.rules.specs.declared.Selection.{Selection}
 use Rattle.rules.specs.declared.Input.{Input}
 use Rattle.rules.specs.declared.Source.{Source}
 use Rattle.rules.specs.declared.Output.{Output}
 use Rattle.rules.specs.declared.State.{State}
 use Rattle.rules.specs.declared.Event.{Event}
-use Rattle.rules.specs.World.{if_then_else_, number, withPins, withSelection, worldOf}
+use Rattle.rules.specs.World.{World, if_then_else_, number, withPins, withSelection, worldOf}
 use Rattle.rules.specs.Receive.{isCode, isAddress, isLast, isLatched, addressAfter, latchAfter, inputAfter, value, isByte, risen, risenLatch}
 use Rattle.rules.specs.Send.{going, sourceOf, isSending, shownAddress, outputOf, outputAfter, fallen}
 use Rattle.rules.specs.Event.{pinsAfter, decodes, react, step, refusal}
@@ -24,8 +25,8 @@ use Rattle.traces.specs.declared.quick.Usual.{Usual}
 use Rattle.traces.specs.Quick.{IsPin, onlyCounts, RiseSorted, FallSorted, Sorted}
 
 -- Sorting.
-pub pin-found : (t : List ℕ) (at a b : ℕ) → 5 ≤ length t - at → a ≡ two t at → b ≡ two t (at + 2) → (eqb a 3 && eqb b 1) ≡ true → IsPin t at (getD t (at + 4) 0)
-pin-found t at a b h ea eb e =
+pub pin-found : {t : List ℕ} {at a b : ℕ} → 5 ≤ length t - at → a ≡ two t at → b ≡ two t (at + 2) → (eqb a 3 && eqb b 1) ≡ true → IsPin t at (getD t (at + 4) 0)
+pin-found {a = a} {b} h ea eb e =
     record {
       whole = h;
       size = sym ea ∙ eqb-true a 3 (and-left (eqb a 3) (eqb b 1) e);
@@ -33,8 +34,8 @@ pin-found t at a b h ea eb e =
       byte = refl;
     }
 
-pub pin-is : {t : List ℕ} {at : ℕ} (n p : ℕ) → n ≡ p → p ≤ 9 → (n ≤ 9 → IsPin t at n) → IsPin t at p
-pin-is {t} {at} n p e h f = subst (IsPin t at) e (f (omega arith))
+pub pin-is : {t : List ℕ} {at n p : ℕ} → n ≡ p → p ≤ 9 → (n ≤ 9 → IsPin t at n) → IsPin t at p
+pin-is {t} {at} e h f = subst (IsPin t at) e (f (omega arith))
 
 -- The pin byte of D is 2 or 3, by its level.
 pub data-byte : (b : ℕ) → (eqb b 2 || eqb b 3) ≡ true → b ≡ 2 + number (eqb b 3)
@@ -49,7 +50,7 @@ pub data-small : (v : Bool) → 2 + number v ≤ 9
 data-small true = omega arith
 data-small false = omega arith
 
-module _ (row : Row) (s : State) (t : List ℕ) (at : ℕ) (room : Bool) (hr : not room ≡ false) where
+module _ (row : Row) (s : State) {t : List ℕ} {at : ℕ} (room : Bool) (hr : not room ≡ false) where
   pub sorted-fall : (r : Usual) → IsPin t at 0 → FallSorted row s r → Sorted row s t at room r
   sorted-fall Usual.Other p h = tt
   sorted-fall (Usual.Data v) p h = absurd h
@@ -69,7 +70,7 @@ module _ (row : Row) (s : State) (t : List ℕ) (at : ℕ) (room : Bool) (hr : n
   pub sorted-data : (v : Bool) → IsPin t at (2 + number v) → Sorted row s t at room (Usual.Data v)
   sorted-data v p = (not-false room hr, p)
 
-module _ (row : Row) (s : State) (d : Bool) (ed : d ≡ decodes s) (h : not (d && not (s .pins .c)) ≡ false) where
+module _ (row : Row) (s : State) {d : Bool} (ed : d ≡ decodes s) (h : not (d && not (s .pins .c)) ≡ false) where
   decodes-at : decodes s ≡ true
   decodes-at = sym ed ∙ and-left d (not (s .pins .c)) (not-false (d && not (s .pins .c)) h)
 
@@ -79,18 +80,19 @@ module _ (row : Row) (s : State) (d : Bool) (ed : d ≡ decodes s) (h : not (d &
   pub rise-bit : (s .input .bits ≡ 7 → ⊥) → RiseSorted row s Usual.Bit
   rise-bit z = (decodes-at, low-at, z)
 
-  pub rise-whole : (b : Bool) → b ≡ onlyCounts row s → s .input .bits ≡ 7 → not b ≡ false → RiseSorted row s Usual.Whole
-  rise-whole b eb z p = (decodes-at, low-at, z, sym eb ∙ not-false b p)
+  pub rise-whole : {b : Bool} → b ≡ onlyCounts row s → s .input .bits ≡ 7 → not b ≡ false → RiseSorted row s Usual.Whole
+  rise-whole {b} eb z p = (decodes-at, low-at, z, sym eb ∙ not-false b p)
 
-module _ (row : Row) (s : State) (d sending : Bool) (ed : d ≡ decodes s) (es : sending ≡ isSending row s) (hc : not (s .pins .c) ≡ false) where
+module _ (row : Row) (s : State) {d sending : Bool} (ed : d ≡ decodes s) (es : sending ≡ isSending row s) (hc : not (s .pins .c) ≡ false) where
   both-at : (b : Bool) → (d && sending) ≡ b → (decodes s && isSending row s) ≡ b
   both-at b h = ap (λ (x : Bool). x && isSending row s) (sym ed) ∙ ap (λ (x : Bool). d && x) (sym es) ∙ h
 
   pub fall-still : not (d && sending) ≡ true → FallSorted row s Usual.Still
   fall-still h = (not-false (s .pins .c) hc, both-at false (not-true (d && sending) h))
 
-  pub fall-shift : (x y : Source) → not (d && sending) ≡ false → (s .input .bits ≡ 0 → ⊥) → x ≡ sourceOf s → x ≡ y → going row y (s .place .address) .past ≡ false → FallSorted row s Usual.Shift
-  fall-shift x y h z ex ey p =
+  pub fall-shift : {x y : Source} → not (d && sending) ≡ false → (s .input .bits ≡ 0 → ⊥) → x ≡ sourceOf s → x ≡ y → going row y (s .place .address) .past ≡ false
+      → FallSorted row s Usual.Shift
+  fall-shift h z ex ey p =
       (not-false (s .pins .c) hc, both-at true (not-false (d && sending) h), z, ap (λ (u : Source). going row u (s .place .address) .past) (sym ex ∙ ey) ∙ p)
 
 -- A byte that only counts is nothing else.
@@ -104,35 +106,47 @@ counts-only row s h = apart (isCode s) (isLast row s) (isAddress row s) (isLatch
     apart false false true d e = clash (sym e)
     apart false false false true e = clash (sym e)
 
+-- A state with a pin set and the selection's parts given; the others are kept.
+abbrev heldAs : Bool → State → Selection
+heldAs held s = record { selected = s .selection .selected; held = held; seen = s .selection .seen }
+
+abbrev after : Event → Selection → Input → Output → State → State
+after e x i o s = withPins (pinsAfter e (s .pins)) (withSelection (s .place .address) x i (s .command) o s)
+
 -- The ways.
 module _ (row : Row) (s : State) where
   pub data-way : (b : Bool) → (s .selection .selected ≡ true → s .pins .c ≡ false → s .selection .held ≡ not (s .pins .hold))
       → withPins (pinsAfter (Event.Data b) (s .pins)) s ≡ stepAlone row (Event.Data b) s
   unfolding step react
   data-way b h =
-      if-elim (λ (held : Bool). withPins (pinsAfter (Event.Data b) (s .pins)) s ≡ withPins (pinsAfter (Event.Data b) (s .pins)) (withSelection (s .place .address) (record { selected = s .selection .selected; held = held; seen = s .selection .seen }) (s .input) (s .command) (s .output) s))
-      (s .selection .selected && not (s .pins .c))
-      (λ e. rw (← h (and-left (s .selection .selected) (not (s .pins .c)) e) (not-true (s .pins .c) (and-right (s .selection .selected) (not (s .pins .c)) e))))
+      let on = s .selection .selected in
+      let low = not (s .pins .c) in
+      if-elim (λ (held : Bool). withPins (pinsAfter (Event.Data b) (s .pins)) s ≡ after (Event.Data b) (heldAs held s) (s .input) (s .output) s)
+      (on && low)
+      (λ e. rw (← h (and-left on low e) (not-true (s .pins .c) (and-right on low e))))
       (λ _. refl)
 
   -- C is high then, so that HOLD changes nothing.
   held-kept : (i : Input) (on : Bool)
-      → withPins (pinsAfter (Event.Clock true) (s .pins)) (withSelection (s .place .address) (s .selection) i (s .command) (s .output) s)
-      ≡ withPins (pinsAfter (Event.Clock true) (s .pins)) (withSelection (s .place .address) (record { selected = s .selection .selected; held = if on && false then not (s .pins .hold) else s .selection .held; seen = s .selection .seen }) i (s .command) (s .output) s)
+      → after (Event.Clock true) (s .selection) i (s .output) s ≡ after (Event.Clock true) (heldAs (if on && false then not (s .pins .hold) else s .selection .held) s) i (s .output) s
   held-kept i true = refl
   held-kept i false = refl
 
-  pub bit-way : (v : ℕ) → decodes s ≡ true → s .pins .c ≡ false → (s .input .bits ≡ 7 → ⊥) → v ≡ s .input .value * 2 + number (s .pins .d)
-      → withPins (pinsAfter (Event.Clock true) (s .pins)) (withSelection (s .place .address) (s .selection) (record { bits = s .input .bits + 1; value = v; bytes = s .input .bytes; last = s .input .last }) (s .command) (s .output) s) ≡ stepAlone row (Event.Clock true) s
+  pub bit-way : {v : ℕ} → decodes s ≡ true → s .pins .c ≡ false → (s .input .bits ≡ 7 → ⊥) → v ≡ s .input .value * 2 + number (s .pins .d)
+      → after (Event.Clock true) (s .selection) (record { bits = s .input .bits + 1; value = v; bytes = s .input .bytes; last = s .input .last }) (s .output) s
+      ≡ stepAlone row (Event.Clock true) s
   unfolding step react risen
-  bit-way v d c z e = rw (d, c, ne-eqb (s .input .bits) 7 z, e) (held-kept (record { bits = s .input .bits + 1; value = s .input .value * 2 + number (s .pins .d); bytes = s .input .bytes; last = s .input .last }) (s .selection .selected))
+  bit-way d c z e =
+      let more : Input = record { bits = s .input .bits + 1; value = s .input .value * 2 + number (s .pins .d); bytes = s .input .bytes; last = s .input .last } in
+      rw (d, c, ne-eqb (s .input .bits) 7 z, e) (held-kept more (s .selection .selected))
 
-  pub whole-way : (i : Input) → decodes s ≡ true → s .pins .c ≡ false → s .input .bits ≡ 7 → onlyCounts row s ≡ true → i ≡ inputAfter (value s) (s .input)
-      → withPins (pinsAfter (Event.Clock true) (s .pins)) (withSelection (s .place .address) (s .selection) i (s .command) (s .output) s) ≡ stepAlone row (Event.Clock true) s
+  pub whole-way : {i : Input} → decodes s ≡ true → s .pins .c ≡ false → s .input .bits ≡ 7 → onlyCounts row s ≡ true → i ≡ inputAfter (value s) (s .input)
+      → after (Event.Clock true) (s .selection) i (s .output) s ≡ stepAlone row (Event.Clock true) s
   unfolding step react risen addressAfter
-  whole-way i d c z p e =
+  whole-way d c z p e =
       let none = counts-only row s p in
-      rw (e, d, c, eq-eqb (s .input .bits) 7 z, none .0, none .1, none .2, none .3) (held-kept (record { bits = 0; value = 0; bytes = min (s .input .bytes + 1) 6; last = value s }) (s .selection .selected))
+      let more : Input = record { bits = 0; value = 0; bytes = min (s .input .bytes + 1) 6; last = value s } in
+      rw (e, d, c, eq-eqb (s .input .bits) 7 z, none .0, none .1, none .2, none .3) (held-kept more (s .selection .selected))
 
   with-clock : (a b x : Bool) → s .pins .c ≡ true → (a && b) ≡ x → (a && s .pins .c && b) ≡ x
   with-clock a b x c h = go (s .pins .c) c
@@ -151,27 +165,28 @@ module _ (row : Row) (s : State) where
   held-eq false h held = refl
 
   pub still-way : (cells identification latch : List ℕ) → s .pins .c ≡ true → (decodes s && isSending row s) ≡ false
-      → withPins (pinsAfter (Event.Clock false) (s .pins)) (withSelection (s .place .address) (record { selected = s .selection .selected; held = s .selection .selected && not (s .pins .hold) || not (s .selection .selected) && s .selection .held; seen = s .selection .seen }) (s .input) (s .command) (s .output) s)
+      → after (Event.Clock false) (heldAs (s .selection .selected && not (s .pins .hold) || not (s .selection .selected) && s .selection .held) s) (s .input) (s .output) s
       ≡ step row (Event.Clock false) (worldOf s cells identification latch) .state
   unfolding step react fallen
   still-way cells identification latch c h =
       let f = with-clock (decodes s) (isSending row s) false c h in
-      let W : Bool → State = λ (x : Bool). withPins (pinsAfter (Event.Clock false) (s .pins)) (withSelection (s .place .address) (record { selected = s .selection .selected; held = x; seen = s .selection .seen }) (s .input) (s .command) (s .output) s) in
-      ap W (held-eq (s .selection .selected) (not (s .pins .hold)) (s .selection .held)) ∙ rw f
+      let held : Bool → State = λ (x : Bool). after (Event.Clock false) (heldAs x s) (s .input) (s .output) s in
+      ap held (held-eq (s .selection .selected) (not (s .pins .hold)) (s .selection .held)) ∙ rw f
 
-  pub shift-way : (cells identification latch : List ℕ) (o : Output) → s .pins .c ≡ true → (decodes s && isSending row s) ≡ true → (s .input .bits ≡ 0 → ⊥) → going row (sourceOf s) (s .place .address) .past ≡ false
-      → o ≡ outputOf (s .output .sending) (s .input .bits)
-      → withPins (pinsAfter (Event.Clock false) (s .pins)) (withSelection (s .place .address) (record { selected = s .selection .selected; held = not (s .pins .hold); seen = s .selection .seen }) (s .input) (s .command) o s) ≡ step row (Event.Clock false) (worldOf s cells identification latch) .state
+  pub shift-way : (cells identification latch : List ℕ) {o : Output} → s .pins .c ≡ true → (decodes s && isSending row s) ≡ true → (s .input .bits ≡ 0 → ⊥)
+      → going row (sourceOf s) (s .place .address) .past ≡ false → o ≡ outputOf (s .output .sending) (s .input .bits)
+      → after (Event.Clock false) (heldAs (not (s .pins .hold)) s) (s .input) o s ≡ step row (Event.Clock false) (worldOf s cells identification latch) .state
   unfolding step react fallen shownAddress outputAfter
-  shift-way cells identification latch o c h z p eo =
+  shift-way cells identification latch c h z p eo =
       let f = with-clock (decodes s) (isSending row s) true c h in
       let on : s .selection .selected ≡ true = and-left (s .selection .selected) (not (s .selection .held)) (and-left (decodes s) (isSending row s) h) in
       let k : (s .selection .selected && true) ≡ true = and-both (s .selection .selected) true on refl in
       rw (eo, f, ne-eqb (s .input .bits) 0 z, p, k)
 
 -- They touch no list.
-module _ (row : Row) (s r : State) (cells identification latch : List ℕ) where
-  pub bit-alone : (s .input .bits ≡ 7 → ⊥) → r ≡ stepAlone row (Event.Clock true) s → worldOf r cells identification latch ≡ step row (Event.Clock true) (worldOf s cells identification latch)
+module _ (row : Row) (s : State) {r : State} {cells identification latch : List ℕ} where
+  pub bit-alone : (s .input .bits ≡ 7 → ⊥) → r ≡ stepAlone row (Event.Clock true) s
+      → worldOf r cells identification latch ≡ step row (Event.Clock true) (worldOf s cells identification latch)
   unfolding step react risenLatch
   bit-alone z e =
       let d = decodes s && not (s .pins .c) in
@@ -179,14 +194,14 @@ module _ (row : Row) (s r : State) (cells identification latch : List ℕ) where
       ap (λ (x : State). worldOf x cells identification latch) e
       ∙ ap (worldOf (stepAlone row (Event.Clock true) s) cells identification) (sym (if-no (isByte d s) (latchAfter row (value s) s latch) latch none))
 
-  pub whole-alone : onlyCounts row s ≡ true → r ≡ stepAlone row (Event.Clock true) s → worldOf r cells identification latch ≡ step row (Event.Clock true) (worldOf s cells identification latch)
+  pub whole-alone : onlyCounts row s ≡ true → r ≡ stepAlone row (Event.Clock true) s
+      → worldOf r cells identification latch ≡ step row (Event.Clock true) (worldOf s cells identification latch)
   unfolding step react risenLatch latchAfter
   whole-alone p e =
       let d = decodes s && not (s .pins .c) in
       let none = counts-only row s p in
       let kept : latchAfter row (value s) s latch ≡ latch = rw (none .0, none .3) in
-      ap (λ (x : State). worldOf x cells identification latch) e
-      ∙ ap (worldOf (stepAlone row (Event.Clock true) s) cells identification) (sym (same (isByte d s) kept))
+      ap (λ (x : State). worldOf x cells identification latch) e ∙ ap (worldOf (stepAlone row (Event.Clock true) s) cells identification) (sym (same (isByte d s) kept))
     where
       same : (b : Bool) {x : List ℕ} → x ≡ latch → (if b then x else latch) ≡ latch
       same true h = h
@@ -200,19 +215,18 @@ module _ (row : Row) (s r : State) (cells identification latch : List ℕ) where
   pub shift-alone : s .pins .c ≡ true → (decodes s && isSending row s) ≡ true → (s .input .bits ≡ 0 → ⊥) → going row (sourceOf s) (s .place .address) .past ≡ false
       → r ≡ stepAlone row (Event.Clock false) s → worldOf r cells identification latch ≡ step row (Event.Clock false) (worldOf s cells identification latch)
   unfolding step react
-  shift-alone c h z p e =
-      ap (λ (x : State). worldOf x cells identification latch)
-      (e ∙ sym (shift-way row s [] [] [] (outputOf (s .output .sending) (s .input .bits)) c h z p refl) ∙ shift-way row s cells identification latch (outputOf (s .output .sending) (s .input .bits)) c h z p refl)
+  shift-alone c h z p e = ap (λ (x : State). worldOf x cells identification latch) (e ∙ sym (shift-way row s [] [] [] c h z p refl) ∙ shift-way row s cells identification latch c h z p refl)
 
 -- A whole pin record with room is done, and takes five bytes.
-pub pin-done : {t : List ℕ} {at p : ℕ} (s : State) → IsPin t at p → p ≤ 9 → refusal (pinEvent p) s ≡ 0 → (recordRefusal t at false s ≡ 0) × (pinEvent p ≡ eventAt t at)
+pub pin-done : (row : Row) {t : List ℕ} {at p : ℕ} (w : World) → IsPin t at p → p ≤ 9 → refusal row (pinEvent p) w ≡ 0
+    → (recordRefusal row t at false w ≡ 0) × (pinEvent p ≡ eventAt t at)
 unfolding recordRefusal eventAt
-pin-done {t} {at} {p} s h le e =
+pin-done row {t} {at} {p} w h le e =
     let bad : ltb 9 (getD t (at + 4) 0) ≡ false = le-ltb 9 (getD t (at + 4) 0) (omega (arith, h .byte)) in
     let four : ltb (length t - at) 4 ≡ false = le-ltb (length t - at) 4 (omega (arith, h .whole)) in
     let five : ltb (length t - at) 5 ≡ false = le-ltb (length t - at) 5 (h .whole) in
     (rw (four, h .size, h .kind, five, bad, h .byte) e, rw (h .kind, h .byte))
 
 -- What was sorted, once its way is known.
-pub known-way : (row : Row) (s : State) (t : List ℕ) (at : ℕ) (room : Bool) (x y : Usual) → x ≡ y → Sorted row s t at room x → Sorted row s t at room y
-known-way row s t at room x y e h = subst (Sorted row s t at room) e h
+pub known-way : (row : Row) (s : State) (t : List ℕ) (at : ℕ) (room : Bool) {x y : Usual} → x ≡ y → Sorted row s t at room x → Sorted row s t at room y
+known-way row s t at room e h = subst (Sorted row s t at room) e h

@@ -4,7 +4,7 @@ ghost use mathlib.Core.Path.{_≡_};
 ghost use mathlib.Core.Bool.{false};
 ghost use Prim.Native.Nat.{_+_, _≤_, _<_};
 ghost use lib.ListN.{length};
-ghost use Rattle.rules.specs.World.{worldOf};
+ghost use Rattle.rules.specs.World.{World, worldOf, withState};
 ghost use Rattle.rules.specs.Device.{Widths};
 ghost use Rattle.rules.specs.Sound.{Sound, Lent};
 ghost use Rattle.rules.specs.Trace.{two, lengthOf, pinEvent, eventAt, badPin, recordRefusal, progressOf, turn};
@@ -73,7 +73,7 @@ pub fn is_bad_pin(trace: &[u8], at: usize, kind: usize) -> bool
 // What the record at a place is refused with, in document 01's order, or 0.
 pub fn refused(trace: &[u8], at: usize, full: bool, s: State) -> usize
     requires { ⌜ at ≤ length (now trace) ⌝ }
-    ensures { λ r. ⌜ r ≡ recordRefusal (now (trace .entry)) at full s ⌝ }
+    ensures { λ r. ⌜ ((row : Row) (w : World) → r ≡ recordRefusal row (now (trace .entry)) at full (withState s w)) ⌝ }
 {
     let left = trace.len() - at;
     if left < 4 {

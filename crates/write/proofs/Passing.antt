@@ -1,10 +1,8 @@
 -- What a wait finishes, one law for each way through the rules.
-use Prim.Native.Nat.{ℕ, _+_, _-_, _*_, _/_, _%_, _^_, _≤_, _<_}
-use mathlib.Core.Path.{_≡_, refl, sym, ap, _∙_, subst}
+use Prim.Native.Nat.{ℕ, _-_}
+use mathlib.Core.Path.{_≡_, refl, sym, ap, _∙_}
 use mathlib.Core.Bool.{Bool, true, false, not, _&&_, _||_, and-true, and-false, or-false, true≢false}
 use mathlib.Core.List.{List}
-use native.Mathlib.Nat.{div-add-mod', div-lt-iff-lt-mul, mul-le-mul-right}
-use native.Mathlib.Omega.{arith}
 use lib.Dec.{leb}
 use borrow.Author.Tests.{not-true, not-false}
 use Rattle.rules.specs.declared.Row.{Row}
@@ -12,11 +10,9 @@ use Rattle.rules.specs.declared.Kind.{Kind}
 use Rattle.rules.specs.declared.Change.{Change}
 use Rattle.rules.specs.declared.State.{State}
 use Rattle.rules.specs.World.{if_then_else_, withStored, worldOf}
-use Rattle.rules.specs.Device.{Widths}
 use Rattle.rules.specs.Instruction.{changes}
 use Rattle.rules.specs.Cycle.{written, ends, waitedState, waited}
 use Rattle.rules.proofs.Choice.{and-right}
-use Rattle.rules.proofs.Widths.{page-positive, pages}
 
 module _ (s : State) (n : ℕ) (c : Change) (ec : c ≡ changes (s .cycle .kind)) where
   pub ends-at : (b : Bool) → (c .runs && leb (s .place .left) n) ≡ b → ends n s ≡ b
@@ -30,14 +26,6 @@ module _ (s : State) (n : ℕ) (c : Change) (ec : c ≡ changes (s .cycle .kind)
       → withStored (record { status = status; wel = false; locked = s .registers .locked || c .lock }) (record { kind = Kind.None; next = s .cycle .next }) (s .place .start) left s ≡ waitedState n s
   unfolding waitedState
   wait-ends left status el es h = rw (ends-at true (not-false _ h), and-false (s .registers .wel), es, ec, el)
-
--- A page start leaves room for its page.
-pub page-room : {row : Row} → Widths row → (a : ℕ) → a % row .page ≡ 0 → a < row .cells → a + row .page ≤ row .cells
-page-room {row} v a e h =
-    let p = row .page in
-    let whole : a / p * p ≡ a = omega (arith, div-add-mod' a p) in
-    let less : a / p < 2 ^ (v .cellBits - v .pageBits) = div-lt-iff-lt-mul (page-positive v) .1 (subst (λ (n : ℕ). a < n) (pages v) h) in
-    omega (arith, mul-le-mul-right p less, pages v)
 
 -- No cycle writes to both.
 one-list : (k : Kind) → changes k .cells ≡ true → changes k .identification ≡ false

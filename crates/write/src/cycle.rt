@@ -1,11 +1,12 @@
 // Time passes: what the end of a cycle changes.
 
 ghost use mathlib.Core.Path.{_≡_};
-ghost use Prim.Native.Nat.{_-_};
+ghost use Prim.Native.Nat.{_+_, _-_};
+ghost use lib.ListN.{length};
 ghost use Rattle.rules.specs.World.{if_then_else_, worldOf};
 ghost use Rattle.rules.specs.Device.{Widths};
 ghost use Rattle.rules.specs.Cycle.{waitedState, waited};
-ghost use Rattle.rules.specs.Sound.{SoundCycle, Lent};
+ghost use Rattle.rules.specs.Sound.{SoundCycle};
 use rules::Cycle;
 use rules::Kind;
 use rules::Registers;
@@ -68,7 +69,8 @@ pub fn wait(
     latch: &[u8],
     wait: u32,
 ) -> State
-    requires { ⌜ (Widths row) × (SoundCycle row (s .cycle .kind) (s .cycle .next) (s .place .start) (s .place .left)) × (Lent row (worldOf s (now cells) (now identification) (now latch))) ⌝ }
+    requires { ⌜ (Widths row) × (SoundCycle row (s .cycle .kind) (s .cycle .next) (s .place .start) (s .place .left)) ⌝ }
+    requires { ⌜ (length (now cells) ≡ row .cells) × (length (now identification) ≡ row .page) × (length (now latch) ≡ row .page + row .page) ⌝ }
     ensures { λ r. ⌜ worldOf r (now (cells .exit)) (now (identification .exit)) (now (latch .entry)) ≡ waited row wait (worldOf s (now (cells .entry)) (now (identification .entry)) (now (latch .entry))) ⌝ }
 {
     let n = wait as usize;

@@ -1,6 +1,7 @@
 -- `m95::event` meets its contract. The test of an event's number is handed to `omega`, so that its meaning counts and not its spelling.
 use native.Mathlib.Omega.{arith}
 use Rattle.rules.specs.World.{worldOf}
+use Rattle.rules.specs.Device.{rowOf}
 use Rattle.m95.proofs.Calling.{event-refused, event-power, event-done, fine-row}
 use borrow.Author.Needs.{needs}
 use Rattle.m95.proofs.event.Statement.{statement}
@@ -34,7 +35,7 @@ same-length-6 : tie.Need-same-length-6
 same-length-6 c = search needs
 
 returns-2 : tie.Need-returns-2
-returns-2 c = event-power (c .before .before .before .before .before .before .before .before .before .before .args .device) (worldOf (c .before .before .before .before .before .before .before .before .before .before .args .s) (c .before .before .before .before .before .before .before .before .before .before .args .cells .now) (c .before .before .before .before .before .before .before .before .before .before .args .identification .now) (c .before .before .before .before .before .before .before .before .before .before .args .latch .now)) (c .before .before .before .before .before .before .before .before .before .before .args .event) (c .before .before .before .world-refused .result) (c .before .before .before .world-refused .ensures) (c .before .before .if1 .left) (c .before .refused .result) (c .before .refused .ensures) (omega (arith, c .if2 .taken))
+returns-2 c = event-power (c .before .before .before .before .before .before .before .before .before .before .args .device) (worldOf (c .before .before .before .before .before .before .before .before .before .before .args .s) (c .before .before .before .before .before .before .before .before .before .before .args .cells .now) (c .before .before .before .before .before .before .before .before .before .before .args .identification .now) (c .before .before .before .before .before .before .before .before .before .before .args .latch .now)) (c .before .before .before .before .before .before .before .before .before .before .args .event) (c .before .before .before .world-refused .result) (c .before .before .before .world-refused .ensures) (c .before .before .if1 .left) (c .before .refused .result) (c .before .refused .ensures (rowOf (c .before .before .before .before .before .before .before .before .before .before .args .device)) (worldOf (c .before .before .before .before .before .before .before .before .before .before .args .s) (c .before .before .before .before .before .before .before .before .before .before .args .cells .now) (c .before .before .before .before .before .before .before .before .before .before .args .identification .now) (c .before .before .before .before .before .before .before .before .before .before .args .latch .now))) (omega (arith, c .if2 .taken))
 
 row-of-requires : tie.Need-row-of-requires
 row-of-requires c κs = search needs
@@ -58,7 +59,7 @@ same-length-9 : tie.Need-same-length-9
 same-length-9 c = search needs
 
 returns-3 : tie.Need-returns-3
-returns-3 c = event-done (c .before .before .before .before .before .before .before .before .before .before .before .before .before .before .before .before .before .before .before .before .before .before .args .device) (worldOf (c .before .before .before .before .before .before .before .before .before .before .before .before .before .before .before .before .before .before .before .before .before .before .args .s) (c .before .before .before .before .before .before .before .before .before .before .before .before .before .before .before .before .before .before .before .before .before .before .args .cells .now) (c .before .before .before .before .before .before .before .before .before .before .before .before .before .before .before .before .before .before .before .before .before .before .args .identification .now) (c .before .before .before .before .before .before .before .before .before .before .before .before .before .before .before .before .before .before .before .before .before .before .args .latch .now)) (c .before .before .before .before .before .before .before .before .before .before .before .before .before .before .before .before .before .before .before .before .before .before .args .event) (c .before .before .before .before .before .before .before .before .before .before .before .before .before .before .before .world-refused .result) (c .before .before .before .before .before .before .before .before .before .before .before .before .before .before .before .world-refused .ensures) (c .before .before .before .before .before .before .before .before .before .before .before .before .before .before .if1 .left) (c .before .before .before .before .before .before .before .before .before .before .before .before .before .refused .result) (c .before .before .before .before .before .before .before .before .before .before .before .before .before .refused .ensures) (c .before .before .before .before .before .before .before .before .before .before .before .row-of .result) _ (c .answer .result) (omega (arith, c .before .before .before .before .before .before .before .before .before .before .before .before .if2 .left)) (c .before .before .before .before .before .before .before .before .before .before .before .row-of .ensures) (c .before .before .before .before .before .before .before .step .ensures) (c .answer .ensures)
+returns-3 c = event-done (c .before .before .before .before .before .before .before .before .before .before .before .before .before .before .before .before .before .before .before .before .before .before .args .device) (worldOf (c .before .before .before .before .before .before .before .before .before .before .before .before .before .before .before .before .before .before .before .before .before .before .args .s) (c .before .before .before .before .before .before .before .before .before .before .before .before .before .before .before .before .before .before .before .before .before .before .args .cells .now) (c .before .before .before .before .before .before .before .before .before .before .before .before .before .before .before .before .before .before .before .before .before .before .args .identification .now) (c .before .before .before .before .before .before .before .before .before .before .before .before .before .before .before .before .before .before .before .before .before .before .args .latch .now)) (c .before .before .before .before .before .before .before .before .before .before .before .before .before .before .before .before .before .before .before .before .before .before .args .event) (c .before .before .before .before .before .before .before .before .before .before .before .before .before .before .before .world-refused .result) (c .before .before .before .before .before .before .before .before .before .before .before .before .before .before .before .world-refused .ensures) (c .before .before .before .before .before .before .before .before .before .before .before .before .before .before .if1 .left) (c .before .before .before .before .before .before .before .before .before .before .before .before .before .refused .result) (c .before .before .before .before .before .before .before .before .before .before .before .before .before .refused .ensures (rowOf (c .before .before .before .before .before .before .before .before .before .before .before .before .before .before .before .before .before .before .before .before .before .before .args .device)) (worldOf (c .before .before .before .before .before .before .before .before .before .before .before .before .before .before .before .before .before .before .before .before .before .before .args .s) (c .before .before .before .before .before .before .before .before .before .before .before .before .before .before .before .before .before .before .before .before .before .before .args .cells .now) (c .before .before .before .before .before .before .before .before .before .before .before .before .before .before .before .before .before .before .before .before .before .before .args .identification .now) (c .before .before .before .before .before .before .before .before .before .before .before .before .before .before .before .before .before .before .before .before .before .before .args .latch .now))) (c .before .before .before .before .before .before .before .before .before .before .before .row-of .result) _ (c .answer .result) (omega (arith, c .before .before .before .before .before .before .before .before .before .before .before .before .if2 .left)) (c .before .before .before .before .before .before .before .before .before .before .before .row-of .ensures) (c .before .before .before .before .before .before .before .step .ensures) (c .answer .ensures)
 
 pub event-spec : {M : Type 1} → statement M
 event-spec =

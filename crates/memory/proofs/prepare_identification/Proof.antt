@@ -10,19 +10,19 @@ fill-requires : tie.Need-fill-requires
 fill-requires c κs = search needs
 
 slice-write-page : tie.Need-slice-write-page
-slice-write-page c = omega (arith, c .before .before .before .before .before .before .pre .0 .codeFits, c .before .before .before .before .before .before .pre .1, length-fill (length (c .before .before .before .before .before .before .args .page .now)) (c .before .before .before .fill .ensures))
+slice-write-page c = omega (arith, c .before .before .before .before .before .before .pre .0 .pageLeast, c .before .before .before .before .before .before .pre .1, length-fill (length (c .before .before .before .before .before .before .args .page .now)) (c .before .before .before .fill .ensures))
 
 slice-write-page-2 : tie.Need-slice-write-page-2
-slice-write-page-2 c = simp length-set (omega (arith, c .before .before .before .before .before .before .pre .0 .codeFits, c .before .before .before .before .before .before .pre .1, length-fill (length (c .before .before .before .before .before .before .args .page .now)) (c .before .before .before .fill .ensures)))
+slice-write-page-2 c = simp length-set (omega (arith, c .before .before .before .before .before .before .pre .0 .pageLeast, c .before .before .before .before .before .before .pre .1, length-fill (length (c .before .before .before .before .before .before .args .page .now)) (c .before .before .before .fill .ensures)))
 
 slice-write-page-3 : tie.Need-slice-write-page-3
-slice-write-page-3 c = simp length-set (omega (arith, c .before .before .before .before .before .before .pre .0 .codeFits, c .before .before .before .before .before .before .pre .1, length-fill (length (c .before .before .before .before .before .before .args .page .now)) (c .before .before .before .fill .ensures)))
+slice-write-page-3 c = simp length-set (omega (arith, c .before .before .before .before .before .before .pre .0 .pageLeast, c .before .before .before .before .before .before .pre .1, length-fill (length (c .before .before .before .before .before .before .args .page .now)) (c .before .before .before .fill .ensures)))
 
 same-length : tie.Need-same-length
 same-length c = search needs
 
 returns : tie.Need-returns
-returns c = rw (c .before .before .before .fill .ensures, c .before .before .before .before .before .before .pre .1) (with-code (c .before .before .before .before .before .before .args .row) (c .before .before .before .before .before .before .args .row .page) (c .if1 .taken) (c .before .before .before .before .before .before .pre .0 .codeFits))
+returns c = rw (c .before .before .before .fill .ensures, c .before .before .before .before .before .before .pre .1) (with-code (c .before .before .before .before .before .before .args .row) (c .before .before .before .before .before .before .args .row .page) (c .if1 .taken) (c .before .before .before .before .before .before .pre .0 .pageLeast))
 
 same-length-2 : tie.Need-same-length-2
 same-length-2 c = search needs

@@ -5,7 +5,9 @@ use Rattle.chip.proofs.event.answer.Statement.{statement}
 use Rattle.chip.proofs.event.answer.Tie as tie
 
 returns : tie.Need-returns
-returns c = answer-held (c .before .before .args .s) (c .if1 .taken)
+returns c =
+    let given = c .before .before .args in
+    answer-held (given .s) (c .if1 .taken)
 
 enum-told : tie.Need-enum-told
 enum-told c = search needs
@@ -17,13 +19,19 @@ enum-told-3 : tie.Need-enum-told-3
 enum-told-3 c = search needs
 
 returns-2 : tie.Need-returns-2
-returns-2 c = answer-level (c .before .before .before .before .args .s) _ (c .before .before .if1 .left) (c .enum-told .given .1)
+returns-2 c =
+    let given = c .before .before .before .before .args in
+    answer-level (given .s) (c .before .before .if1 .left) (c .enum-told .given .1)
 
 returns-3 : tie.Need-returns-3
-returns-3 c = answer-level (c .before .before .before .before .args .s) _ (c .before .before .if1 .left) (c .enum-told2 .given .1)
+returns-3 c =
+    let given = c .before .before .before .before .args in
+    answer-level (given .s) (c .before .before .if1 .left) (c .enum-told2 .given .1)
 
 returns-4 : tie.Need-returns-4
-returns-4 c = answer-level (c .before .before .before .before .args .s) _ (c .before .before .if1 .left) (c .enum-told3 .given .1)
+returns-4 c =
+    let given = c .before .before .before .before .args in
+    answer-level (given .s) (c .before .before .if1 .left) (c .enum-told3 .given .1)
 
 pub answer-spec : {M : Type 1} → statement M
 answer-spec =

@@ -14,13 +14,20 @@ settle-requires : tie.Need-settle-requires
 settle-requires c κs = search needs
 
 returns : tie.Need-returns
-returns c = select-ends (c .before .before .before .before .before .before .before .before .args .row) (c .before .before .before .before .before .before .before .before .args .s) _ (c .before .before .before .before .before .before .before .before .args .high) (c .before .before .before .judge .result) (c .before .before .deselect .result) (c .before .before .before .before .before .before .before .if1 .taken) (c .before .before .before .before .if2 .taken) (c .before .before .before .judge .ensures) (c .before .before .deselect .ensures) (c .settle .ensures)
+returns c =
+    let at-deselect = c .before .before in
+    let at-judge = at-deselect .before in
+    let at-if2 = at-judge .before in
+    let given = at-if2 .before .before .before .before .args in
+    select-ends (given .row) (given .s) (at-if2 .before .before .before .if1 .taken) (at-if2 .if2 .taken) (at-judge .judge .ensures) (at-deselect .deselect .ensures) (c .settle .ensures)
 
 settle-requires-2 : tie.Need-settle-requires-2
 settle-requires-2 c κs = search needs
 
 returns-2 : tie.Need-returns-2
-returns-2 c = select-idle (c .before .before .before .before .before .before .args .row) (c .before .before .before .before .before .before .args .s) _ (c .before .before .before .before .before .before .args .high) (c .before .before .before .before .before .if1 .taken) (c .before .before .if2 .left) (c .settle2 .ensures)
+returns-2 c =
+    let given = c .before .before .before .before .before .before .args in
+    select-idle (given .row) (given .s) (c .before .before .before .before .before .if1 .taken) (c .before .before .if2 .left) (c .settle2 .ensures)
 
 select-requires : tie.Need-select-requires
 select-requires c κs = search needs
@@ -29,13 +36,19 @@ settle-requires-3 : tie.Need-settle-requires-3
 settle-requires-3 c κs = search needs
 
 returns-3 : tie.Need-returns-3
-returns-3 c = select-begins (c .before .before .before .before .before .args .row) (c .before .before .before .before .before .args .s) _ (c .before .before .before .before .before .args .high) (c .before .before .select .result) (c .before .before .before .before .if1 .left) (c .before .before .before .if3 .taken) (c .before .before .select .ensures) (c .settle3 .ensures)
+returns-3 c =
+    let at-select = c .before .before in
+    let at-if3 = at-select .before in
+    let given = at-if3 .before .before .args in
+    select-begins (given .row) (given .s) (at-if3 .before .if1 .left) (at-if3 .if3 .taken) (at-select .select .ensures) (c .settle3 .ensures)
 
 settle-requires-4 : tie.Need-settle-requires-4
 settle-requires-4 c κs = search needs
 
 returns-4 : tie.Need-returns-4
-returns-4 c = select-low (c .before .before .before .args .row) (c .before .before .before .args .s) _ (c .before .before .before .args .high) (c .before .before .if1 .left) (c .before .if3 .left) (c .settle4 .ensures)
+returns-4 c =
+    let given = c .before .before .before .args in
+    select-low (given .row) (given .s) (c .before .before .if1 .left) (c .before .if3 .left) (c .settle4 .ensures)
 
 pub chip-select-spec : {M : Type 1} → statement M
 chip-select-spec =

@@ -8,7 +8,9 @@ is-decoding-requires : tie.Need-is-decoding-requires
 is-decoding-requires c κs = search needs
 
 rise-requires : tie.Need-rise-requires
-rise-requires c κs = (c .before .before .before .before .before .before .before .pre .0, c .before .before .before .before .before .before .before .pre .1 .unsettled .input, c .before .before .before .before .before .before .before .pre .1 .unsettled .inside, c .before .before .before .before .before .before .before .pre .2 .latch)
+rise-requires c κs =
+    let start = c .before .before .before .before .before .before .before in
+    (start .pre .0 .0, start .pre .0 .1, start .pre .0 .2, start .pre .1 .2)
 
 settle-requires : tie.Need-settle-requires
 settle-requires c κs = search needs
@@ -17,19 +19,29 @@ same-length : tie.Need-same-length
 same-length c = search needs
 
 returns : tie.Need-returns
-returns c = clock-up (c .before .before .before .before .before .before .before .before .before .before .before .before .args .row) (c .before .before .before .before .before .before .before .before .before .before .before .before .args .s) (c .before .before .before .before .rise .result) _ _ _ _ (c .before .before .before .before .before .before .before .before .before .before .before .before .args .high) (c .before .before .before .before .before .before .before .is-decoding .result) (c .before .before .before .before .before .before .before .is-decoding .ensures) _ (c .before .before .before .before .before .before .before .before .if1 .taken) (c .before .before .before .before .rise .ensures .0) (c .before .before .before .before .rise .ensures .1) (c .settle .ensures)
+returns c =
+    let at-rise = c .before .before .before .before in
+    let at-is-decoding = at-rise .before .before .before in
+    let given = at-is-decoding .before .before .before .before .before .args in
+    clock-up (given .row) (given .s) _ (at-is-decoding .is-decoding .ensures) (at-is-decoding .before .if1 .taken) (at-rise .rise .ensures .0) (at-rise .rise .ensures .1) (c .settle .ensures)
 
 is-decoding-requires-2 : tie.Need-is-decoding-requires-2
 is-decoding-requires-2 c κs = search needs
 
 fall-requires : tie.Need-fall-requires
-fall-requires c κs = (c .before .before .before .before .before .before .pre .0, c .before .before .before .before .before .before .pre .1 .unsettled .input .few, c .before .before .before .before .before .before .pre .1 .unsettled .inside, c .before .before .before .before .before .before .pre .1 .unsettled .stored, c .before .before .before .before .before .before .pre .2 .cells, c .before .before .before .before .before .before .pre .2 .identification)
+fall-requires c κs =
+    let start = c .before .before .before .before .before .before in
+    (start .pre .0 .0, start .pre .0 .1 .few, start .pre .0 .2, start .pre .0 .3, start .pre .1 .0, start .pre .1 .1)
 
 settle-requires-2 : tie.Need-settle-requires-2
 settle-requires-2 c κs = search needs
 
 returns-2 : tie.Need-returns-2
-returns-2 c = clock-down (c .before .before .before .before .before .before .before .before .before .args .row) (c .before .before .before .before .before .before .before .before .before .args .s) (c .before .before .fall .result) _ _ _ _ (c .before .before .before .before .before .before .before .before .before .args .high) (c .before .before .before .before .is-decoding2 .result) (c .before .before .before .before .is-decoding2 .ensures) (c .before .before .before .before .before .if1 .left) (c .before .before .fall .ensures) (c .settle2 .ensures)
+returns-2 c =
+    let at-fall = c .before .before in
+    let at-is-decoding = at-fall .before .before in
+    let given = at-is-decoding .before .before .before .before .before .args in
+    clock-down (given .row) (given .s) _ (at-is-decoding .is-decoding2 .ensures) (at-is-decoding .before .if1 .left) (at-fall .fall .ensures) (c .settle2 .ensures)
 
 pub clock-spec : {M : Type 1} → statement M
 clock-spec =

@@ -1,5 +1,6 @@
 -- `chip::event::refused` meets its contract.
 use mathlib.Core.Path.{refl}
+use Rattle.rules.specs.World.{withState}
 use Rattle.chip.proofs.Events.{refusal-by, power-refused, power-taken}
 use borrow.Author.Needs.{needs}
 use Rattle.chip.proofs.event.refused.Statement.{statement}
@@ -30,28 +31,44 @@ is-busy-requires : tie.Need-is-busy-requires
 is-busy-requires c κs = search needs
 
 returns : tie.Need-returns
-returns c = refusal-by (c .before .before .args .s) (c .before .before .args .event) _ _ (c .enum-told .given .1) refl
+returns c =
+    let given = c .before .before .args in
+    λ row w. refusal-by row (withState (given .s) w) (c .enum-told .given .1) refl
 
 returns-2 : tie.Need-returns-2
-returns-2 c = refusal-by (c .before .before .args .s) (c .before .before .args .event) _ _ (c .enum-told2 .given .1) refl
+returns-2 c =
+    let given = c .before .before .args in
+    λ row w. refusal-by row (withState (given .s) w) (c .enum-told2 .given .1) refl
 
 returns-3 : tie.Need-returns-3
-returns-3 c = refusal-by (c .before .before .args .s) (c .before .before .args .event) _ _ (c .enum-told3 .given .1) refl
+returns-3 c =
+    let given = c .before .before .args in
+    λ row w. refusal-by row (withState (given .s) w) (c .enum-told3 .given .1) refl
 
 returns-4 : tie.Need-returns-4
-returns-4 c = refusal-by (c .before .before .args .s) (c .before .before .args .event) _ _ (c .enum-told4 .given .1) refl
+returns-4 c =
+    let given = c .before .before .args in
+    λ row w. refusal-by row (withState (given .s) w) (c .enum-told4 .given .1) refl
 
 returns-5 : tie.Need-returns-5
-returns-5 c = refusal-by (c .before .before .args .s) (c .before .before .args .event) _ _ (c .enum-told5 .given .1) refl
+returns-5 c =
+    let given = c .before .before .args in
+    λ row w. refusal-by row (withState (given .s) w) (c .enum-told5 .given .1) refl
 
 returns-6 : tie.Need-returns-6
-returns-6 c = refusal-by (c .before .before .args .s) (c .before .before .args .event) _ _ (c .enum-told6 .given .1) refl
+returns-6 c =
+    let given = c .before .before .args in
+    λ row w. refusal-by row (withState (given .s) w) (c .enum-told6 .given .1) refl
 
 returns-7 : tie.Need-returns-7
-returns-7 c = refusal-by (c .before .before .before .before .args .s) (c .before .before .before .before .args .event) _ _ (c .before .before .enum-told7 .given .1) (power-refused (c .before .before .before .before .args .s) (c .before .is-busy .result) (c .before .is-busy .ensures) (c .if1 .taken))
+returns-7 c =
+    let given = c .before .before .before .before .args in
+    λ row w. refusal-by row (withState (given .s) w) (c .before .before .enum-told7 .given .1) (power-refused row (withState (given .s) w) (c .before .is-busy .ensures) (c .if1 .taken))
 
 returns-8 : tie.Need-returns-8
-returns-8 c = refusal-by (c .before .before .before .before .args .s) (c .before .before .before .before .args .event) _ _ (c .before .before .enum-told7 .given .1) (power-taken (c .before .before .before .before .args .s) (c .before .is-busy .result) (c .before .is-busy .ensures) (c .if1 .left))
+returns-8 c =
+    let given = c .before .before .before .before .args in
+    λ row w. refusal-by row (withState (given .s) w) (c .before .before .enum-told7 .given .1) (power-taken row (withState (given .s) w) (c .before .is-busy .ensures) (c .if1 .left))
 
 pub refused-spec : {M : Type 1} → statement M
 refused-spec =

@@ -4,10 +4,14 @@ use Rattle.chip.proofs.event.settle.Statement.{statement}
 use Rattle.chip.proofs.event.settle.Tie as tie
 
 returns : tie.Need-returns
-returns c = settle-low (c .before .before .before .before .before .args .s) (c .before .before .if1 .taken)
+returns c =
+    let given = c .before .before .before .before .before .args in
+    settle-low (given .s) (c .before .before .if1 .taken)
 
 returns-2 : tie.Need-returns-2
-returns-2 c = settle-high (c .before .before .before .args .s) (c .if1 .left)
+returns-2 c =
+    let given = c .before .before .before .args in
+    settle-high (given .s) (c .if1 .left)
 
 pub settle-spec : {M : Type 1} → statement M
 settle-spec = tie.close (tie.spec returns returns-2)

@@ -8,7 +8,11 @@ enum-known-event : tie.Need-enum-known-event
 enum-known-event c = search needs
 
 clock-requires : tie.Need-clock-requires
-clock-requires c κs = search needs
+clock-requires c κs =
+    let start = c .before .before .before .before .before .before .before .before .before in
+    let sound = start .pre .1 .unsettled in
+    let lent = start .pre .2 in
+    ((start .pre .0, sound .input, sound .inside, sound .stored), (lent .cells, lent .identification, lent .latch))
 
 enum-known-event-2 : tie.Need-enum-known-event-2
 enum-known-event-2 c = search needs
@@ -38,7 +42,10 @@ enum-known-event-6 : tie.Need-enum-known-event-6
 enum-known-event-6 c = search needs
 
 wait-requires : tie.Need-wait-requires
-wait-requires c κs = (c .before .before .before .before .before .before .before .before .before .pre .0, c .before .before .before .before .before .before .before .before .before .pre .1 .unsettled .cycle, c .before .before .before .before .before .before .before .before .before .pre .2)
+wait-requires c κs =
+    let start = c .before .before .before .before .before .before .before .before .before in
+    let lent = start .pre .2 in
+    ((start .pre .0, start .pre .1 .unsettled .cycle), (lent .cells, lent .identification, lent .latch))
 
 settle-requires : tie.Need-settle-requires
 settle-requires c κs = search needs
@@ -59,19 +66,30 @@ same-length-3 : tie.Need-same-length-3
 same-length-3 c = search needs
 
 returns : tie.Need-returns
-returns c = step-by (c .before .before .before .before .before .before .before .before .before .before .before .before .args .row) _ _ (c .before .before .before .before .before .before .before .before .before .before .before .before .args .event) _ (c .before .before .before .before .before .before .before .event .given .1) (c .before .before .clock .ensures)
+returns c =
+    let at-event = c .before .before .before .before .before .before .before in
+    let given = at-event .before .before .before .before .before .args in
+    step-by (given .row) _ (at-event .event .given .1) (c .before .before .clock .ensures)
 
 returns-2 : tie.Need-returns-2
-returns-2 c = step-by (c .before .before .before .before .before .before .before .args .row) _ _ (c .before .before .before .before .before .before .before .args .event) _ (c .before .before .event2 .given .1) (data-alone (c .before .before .before .before .before .before .before .args .row) (c .before .before .before .before .before .before .before .args .s) _ _ _ _ _ (c .set-data .ensures))
+returns-2 c =
+    let given = c .before .before .before .before .before .before .before .args in
+    step-by (given .row) _ (c .before .before .event2 .given .1) (data-alone (given .row) (given .s) _ (c .set-data .ensures))
 
 returns-3 : tie.Need-returns-3
-returns-3 c = step-by (c .before .before .before .before .before .before .before .args .row) _ _ (c .before .before .before .before .before .before .before .args .event) _ (c .before .before .event3 .given .1) (select-alone (c .before .before .before .before .before .before .before .args .row) (c .before .before .before .before .before .before .before .args .s) _ _ _ _ _ (c .chip-select .ensures))
+returns-3 c =
+    let given = c .before .before .before .before .before .before .before .args in
+    step-by (given .row) _ (c .before .before .event3 .given .1) (select-alone (given .row) (given .s) _ (c .chip-select .ensures))
 
 returns-4 : tie.Need-returns-4
-returns-4 c = step-by (c .before .before .before .before .before .before .before .args .row) _ _ (c .before .before .before .before .before .before .before .args .event) _ (c .before .before .event4 .given .1) (hold-alone (c .before .before .before .before .before .before .before .args .row) (c .before .before .before .before .before .before .before .args .s) _ _ _ _ _ (c .hold .ensures))
+returns-4 c =
+    let given = c .before .before .before .before .before .before .before .args in
+    step-by (given .row) _ (c .before .before .event4 .given .1) (hold-alone (given .row) (given .s) _ (c .hold .ensures))
 
 returns-5 : tie.Need-returns-5
-returns-5 c = step-by (c .before .before .before .before .before .before .before .args .row) _ _ (c .before .before .before .before .before .before .before .args .event) _ (c .before .before .event5 .given .1) (protect-alone (c .before .before .before .before .before .before .before .args .row) (c .before .before .before .before .before .before .before .args .s) _ _ _ _ _ (c .write-protect .ensures))
+returns-5 c =
+    let given = c .before .before .before .before .before .before .before .args in
+    step-by (given .row) _ (c .before .before .event5 .given .1) (protect-alone (given .row) (given .s) _ (c .write-protect .ensures))
 
 same-length-4 : tie.Need-same-length-4
 same-length-4 c = search needs
@@ -83,10 +101,16 @@ same-length-6 : tie.Need-same-length-6
 same-length-6 c = search needs
 
 returns-6 : tie.Need-returns-6
-returns-6 c = step-by (c .before .before .before .before .before .before .before .before .before .before .before .before .before .before .before .args .row) _ _ (c .before .before .before .before .before .before .before .before .before .before .before .before .before .before .before .args .event) _ (c .before .before .before .before .before .before .before .before .before .before .event6 .given .1) (waits (c .before .before .before .before .before .before .before .before .before .before .before .before .before .before .before .args .row) _ _ _ _ (c .before .before .before .before .before .wait .ensures) (c .settle .ensures))
+returns-6 c =
+    let at-wait = c .before .before .before .before .before in
+    let at-event = at-wait .before .before .before .before .before in
+    let given = at-event .before .before .before .before .before .args in
+    step-by (given .row) _ (at-event .event6 .given .1) (waits (given .row) _ _ (at-wait .wait .ensures) (c .settle .ensures))
 
 returns-7 : tie.Need-returns-7
-returns-7 c = step-by (c .before .before .before .before .before .before .args .row) _ _ (c .before .before .before .before .before .before .args .event) _ (c .before .enum-told .given .1) (power-alone (c .before .before .before .before .before .before .args .row) (c .before .before .before .before .before .before .args .s) _ _ _ _ (c .power .ensures))
+returns-7 c =
+    let given = c .before .before .before .before .before .before .args in
+    step-by (given .row) _ (c .before .enum-told .given .1) (power-alone (given .row) (given .s) (c .power .ensures))
 
 pub step-spec : {M : Type 1} → statement M
 step-spec =

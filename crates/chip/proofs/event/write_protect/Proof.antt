@@ -8,13 +8,17 @@ settle-requires : tie.Need-settle-requires
 settle-requires c κs = search needs
 
 returns : tie.Need-returns
-returns c = protect-high (c .before .before .before .args .row) (c .before .before .before .args .s) _ (c .before .before .before .args .high) (c .before .if1 .taken) (c .settle .ensures)
+returns c =
+    let given = c .before .before .before .args in
+    protect-high (given .row) (given .s) (c .before .if1 .taken) (c .settle .ensures)
 
 settle-requires-2 : tie.Need-settle-requires-2
 settle-requires-2 c κs = search needs
 
 returns-2 : tie.Need-returns-2
-returns-2 c = protect-low (c .before .before .before .before .before .args .row) (c .before .before .before .before .before .args .s) _ (c .before .before .before .before .before .args .high) (c .before .before .before .if1 .left) (c .settle2 .ensures)
+returns-2 c =
+    let given = c .before .before .before .before .before .args in
+    protect-low (given .row) (given .s) (c .before .before .before .if1 .left) (c .settle2 .ensures)
 
 pub write-protect-spec : {M : Type 1} → statement M
 write-protect-spec = tie.close (tie.spec settle-requires returns settle-requires-2 returns-2)

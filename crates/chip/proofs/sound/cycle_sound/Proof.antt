@@ -23,7 +23,14 @@ place-requires : tie.Need-place-requires
 place-requires c κs = search needs
 
 returns : tie.Need-returns
-returns c = cycle-all (c .before .before .before .before .before .before .before .before .args .row) (c .before .before .before .before .before .before .before .before .args .s) (c .before .before .before .before .stored .result) (c .before .before .before .stored2 .result) (c .before .place .result) (c .before .before .time-sound .result) (c .before .before .before .before .before .implies .result) (c .before .before .before .before .before .before .changes .result) (c .before .before .before .before .stored .ensures) (c .before .before .before .stored2 .ensures) (c .before .before .time-sound .ensures) (c .before .place .ensures) (c .before .before .before .before .before .before .changes .ensures) (c .before .before .before .before .before .implies .ensures)
+returns c =
+    let at-time-sound = c .before .before in
+    let at-stored2 = at-time-sound .before in
+    let at-stored = at-stored2 .before in
+    let at-implies = at-stored .before in
+    let given = at-implies .before .before .before .args in
+    cycle-all (given .row) (given .s) (at-stored .stored .ensures) (at-stored2 .stored2 .ensures) (at-time-sound .time-sound .ensures) (c .before .place .ensures)
+    (at-implies .before .changes .ensures) (at-implies .implies .ensures)
 
 pub cycle-sound-spec : {M : Type 1} → statement M
 cycle-sound-spec =

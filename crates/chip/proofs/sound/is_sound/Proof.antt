@@ -20,7 +20,12 @@ latch-is-marked-requires : tie.Need-latch-is-marked-requires
 latch-is-marked-requires c κs = search needs
 
 returns : tie.Need-returns
-returns c = all-sound (c .before .before .before .before .before .before .args .row) (c .before .before .before .before .before .before .args .s) _ (c .before .before .before .before .received-sound .result) (c .before .before .before .cycle-sound .result) (c .before .before .resting-sound .result) (c .before .selected-sound .result) (c .latch-is-marked .result) (c .before .before .before .before .received-sound .ensures) (c .before .before .before .cycle-sound .ensures) (c .before .before .resting-sound .ensures) (c .before .selected-sound .ensures) (c .latch-is-marked .ensures)
+returns c =
+    let at-resting-sound = c .before .before in
+    let at-cycle-sound = at-resting-sound .before in
+    let given = at-cycle-sound .before .before .before .args in
+    all-sound (given .row) (given .s) _ (at-cycle-sound .before .received-sound .ensures) (at-cycle-sound .cycle-sound .ensures) (at-resting-sound .resting-sound .ensures)
+    (c .before .selected-sound .ensures) (c .latch-is-marked .ensures)
 
 pub is-sound-spec : {M : Type 1} → statement M
 is-sound-spec =

@@ -5,7 +5,9 @@ use Rattle.chip.proofs.sound.received_sound.Statement.{statement}
 use Rattle.chip.proofs.sound.received_sound.Tie as tie
 
 returns : tie.Need-returns
-returns c = received-none (c .before .before .args .row) (c .before .before .args .s) (c .if1 .taken)
+returns c =
+    let given = c .before .before .args in
+    received-none (given .row) (given .s) (c .if1 .taken)
 
 cast-limit : tie.Need-cast-limit
 cast-limit c = search needs
@@ -17,7 +19,10 @@ cast-result : tie.Need-cast-result
 cast-result c = search needs
 
 returns-2 : tie.Need-returns-2
-returns-2 c = received-some (c .before .before .before .before .before .before .before .args .row) (c .before .before .before .before .before .before .before .args .s) _ (c .before .before .before .before .before .if1 .left) (one-shifted (c .before .before .before .before .before .before .before .args .s .input .bits) (c .before .before .before .before .before .if1 .left))
+returns-2 c =
+    let at-if1 = c .before .before .before .before .before in
+    let given = at-if1 .before .before .args in
+    received-some (given .row) (given .s) (at-if1 .if1 .left) (one-shifted (given .s .input .bits) (at-if1 .if1 .left))
 
 pub received-sound-spec : {M : Type 1} → statement M
 received-sound-spec = tie.close (tie.spec returns cast-limit shl-limit cast-result returns-2)

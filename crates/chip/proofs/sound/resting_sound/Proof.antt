@@ -20,7 +20,11 @@ implies-requires-4 : tie.Need-implies-requires-4
 implies-requires-4 c κs = search needs
 
 returns : tie.Need-returns
-returns c = resting-all (c .before .before .before .before .before .before .before .before .before .before .args .s) (c .before .before .before .before .before .before .implies .result) (c .before .before .before .before .implies2 .result) (c .before .before .implies3 .result) (c .implies4 .result) (c .before .is-z .result) (c .before .before .before .before .before .before .implies .ensures) (c .before .before .before .before .implies2 .ensures) (c .before .before .implies3 .ensures) (c .before .is-z .ensures) (c .implies4 .ensures)
+returns c =
+    let at-implies3 = c .before .before in
+    let at-implies2 = at-implies3 .before .before in
+    let given = at-implies2 .before .before .before .before .before .before .args in
+    resting-all (given .s) (at-implies2 .before .before .implies .ensures) (at-implies2 .implies2 .ensures) (at-implies3 .implies3 .ensures) (c .before .is-z .ensures) (c .implies4 .ensures)
 
 pub resting-sound-spec : {M : Type 1} → statement M
 resting-sound-spec =

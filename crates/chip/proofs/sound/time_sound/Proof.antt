@@ -8,10 +8,14 @@ is-busy-requires : tie.Need-is-busy-requires
 is-busy-requires c κs = search needs
 
 returns : tie.Need-returns
-returns c = time-runs (c .before .before .before .args .row) (c .before .before .before .args .s) (c .before .before .is-busy .result) (c .before .before .is-busy .ensures) (c .before .if1 .taken)
+returns c =
+    let given = c .before .before .before .args in
+    time-runs (given .row) (given .s) (c .before .before .is-busy .ensures) (c .before .if1 .taken)
 
 returns-2 : tie.Need-returns-2
-returns-2 c = time-rests (c .before .before .args .row) (c .before .before .args .s) (c .before .is-busy .result) (c .before .is-busy .ensures) (c .if1 .left)
+returns-2 c =
+    let given = c .before .before .args in
+    time-rests (given .row) (given .s) (c .before .is-busy .ensures) (c .if1 .left)
 
 pub time-sound-spec : {M : Type 1} → statement M
 time-sound-spec = tie.close (tie.spec is-busy-requires returns returns-2)

@@ -26,7 +26,11 @@ shared-slice-read-result : tie.Need-shared-slice-read-result
 shared-slice-read-result c = search needs
 
 returns-2 : tie.Need-returns-2
-returns-2 c = λ _. pin-found (c .before .before .before .before .before .before .args .trace .now) (c .before .before .before .before .before .before .args .at) (c .before .before .before .two-at .result) (c .before .before .two-at2 .result) (c .before .before .before .before .if1 .left) (c .before .before .before .two-at .ensures) (c .before .before .two-at2 .ensures) (c .before .if2 .taken)
+returns-2 c =
+    let at-two-at2 = c .before .before in
+    let at-two-at = at-two-at2 .before in
+    let at-if1 = at-two-at .before in
+    λ _. pin-found (at-if1 .if1 .left) (at-two-at .two-at .ensures) (at-two-at2 .two-at2 .ensures) (c .before .if2 .taken)
 
 returns-3 : tie.Need-returns-3
 returns-3 c = search needs

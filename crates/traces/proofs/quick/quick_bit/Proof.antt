@@ -12,7 +12,11 @@ add-more : tie.Need-add-more
 add-more c = search needs
 
 returns : tie.Need-returns
-returns c = bit-way (c .before .before .before .before .before .args .row) (c .before .before .before .before .before .args .s) (c .before .before .before .before .with-bit .result) (c .before .before .before .before .before .pre .1) (c .before .before .before .before .before .pre .2) (c .before .before .before .before .before .pre .3) (c .before .before .before .before .with-bit .ensures)
+returns c =
+    let at-with-bit = c .before .before .before .before in
+    let start = at-with-bit .before in
+    let given = start .args in
+    bit-way (given .row) (given .s) (start .pre .1) (start .pre .2) (start .pre .3) (at-with-bit .with-bit .ensures)
 
 pub quick-bit-spec : {M : Type 1} → statement M
 quick-bit-spec = tie.close (tie.spec with-bit-requires add-more returns)

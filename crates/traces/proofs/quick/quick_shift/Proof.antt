@@ -9,7 +9,11 @@ bit-out-requires : tie.Need-bit-out-requires
 bit-out-requires c κs = search needs
 
 returns : tie.Need-returns
-returns c = shift-way (c .before .before .before .before .before .args .row) (c .before .before .before .before .before .args .s) [] [] [] (c .before .before .before .bit-out .result) (c .before .before .before .before .before .pre .1) (c .before .before .before .before .before .pre .2) (c .before .before .before .before .before .pre .3) (c .before .before .before .before .before .pre .4) (c .before .before .before .bit-out .ensures)
+returns c =
+    let at-bit-out = c .before .before .before in
+    let start = at-bit-out .before .before in
+    let given = start .args in
+    shift-way (given .row) (given .s) [] [] [] (start .pre .1) (start .pre .2) (start .pre .3) (start .pre .4) (at-bit-out .bit-out .ensures)
 
 pub quick-shift-spec : {M : Type 1} → statement M
 quick-shift-spec = tie.close (tie.spec bit-out-requires returns)

@@ -5,7 +5,10 @@ use Rattle.traces.proofs.quick.quick_still.Statement.{statement}
 use Rattle.traces.proofs.quick.quick_still.Tie as tie
 
 returns : tie.Need-returns
-returns c = still-way (c .before .before .before .before .before .before .args .row) (c .before .before .before .before .before .before .args .s) [] [] [] (c .before .before .before .before .before .before .pre .0) (c .before .before .before .before .before .before .pre .1)
+returns c =
+    let start = c .before .before .before .before .before .before in
+    let given = start .args in
+    still-way (given .row) (given .s) [] [] [] (start .pre .0) (start .pre .1)
 
 pub quick-still-spec : {M : Type 1} → statement M
 quick-still-spec = tie.close (tie.spec returns)

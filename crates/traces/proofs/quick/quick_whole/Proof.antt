@@ -8,7 +8,10 @@ with-bit-requires : tie.Need-with-bit-requires
 with-bit-requires c κs = search needs
 
 returns : tie.Need-returns
-returns c = whole-way (c .before .before .args .row) (c .before .before .args .s) (c .before .with-bit .result) (c .before .before .pre .1) (c .before .before .pre .2) (c .before .before .pre .3) (c .before .before .pre .4) (c .before .with-bit .ensures)
+returns c =
+    let start = c .before .before in
+    let given = start .args in
+    whole-way (given .row) (given .s) (start .pre .1) (start .pre .2) (start .pre .3) (start .pre .4) (c .before .with-bit .ensures)
 
 pub quick-whole-spec : {M : Type 1} → statement M
 quick-whole-spec = tie.close (tie.spec with-bit-requires returns)

@@ -1,8 +1,6 @@
 -- `traces::quick::sorted` meets its contract.
-use Prim.Native.Nat.{_+_}
 use native.Mathlib.Omega.{arith}
 use lib.Dec.{eqb}
-use Rattle.rules.specs.World.{number}
 use Rattle.traces.proofs.Short.{sorted-fall, sorted-rise, sorted-data, pin-is, data-byte, data-small}
 use borrow.Author.Needs.{needs}
 use Rattle.traces.proofs.quick.sorted.Statement.{statement}
@@ -15,7 +13,11 @@ pin-byte-requires : tie.Need-pin-byte-requires
 pin-byte-requires c κs = search needs
 
 returns-2 : tie.Need-returns-2
-returns-2 c = sorted-data (c .before .before .before .before .args .row) (c .before .before .before .before .args .s) (c .before .before .before .before .args .trace .now) (c .before .before .before .before .args .at) (c .before .before .before .before .args .room) (c .before .before .if1 .left) (eqb (c .before .pin-byte .result) 3) (pin-is (c .before .pin-byte .result) (2 + number (eqb (c .before .pin-byte .result) 3)) (data-byte (c .before .pin-byte .result) (c .if2 .taken)) (data-small (eqb (c .before .pin-byte .result) 3)) (c .before .pin-byte .ensures))
+returns-2 c =
+    let pin = c .before .pin-byte in
+    let given = c .before .before .before .before .args in
+    sorted-data (given .row) (given .s) (given .room) (c .before .before .if1 .left) (eqb (pin .result) 3)
+    (pin-is (data-byte (pin .result) (c .if2 .taken)) (data-small (eqb (pin .result) 3)) (pin .ensures))
 
 usual-fall-requires : tie.Need-usual-fall-requires
 usual-fall-requires c κs = search needs
@@ -24,10 +26,20 @@ usual-rise-requires : tie.Need-usual-rise-requires
 usual-rise-requires c κs = search needs
 
 returns-3 : tie.Need-returns-3
-returns-3 c = sorted-fall (c .before .before .before .before .before .before .args .row) (c .before .before .before .before .before .before .args .s) (c .before .before .before .before .before .before .args .trace .now) (c .before .before .before .before .before .before .args .at) (c .before .before .before .before .before .before .args .room) (c .before .before .before .before .if1 .left) (c .usual-fall .result) (pin-is (c .before .before .before .pin-byte .result) 0 (c .before .match .keys1) (omega arith) (c .before .before .before .pin-byte .ensures)) (c .usual-fall .ensures)
+returns-3 c =
+    let at-pin-byte = c .before .before .before in
+    let at-if1 = at-pin-byte .before in
+    let given = at-if1 .before .before .args in
+    sorted-fall (given .row) (given .s) (given .room) (at-if1 .if1 .left) (c .usual-fall .result)
+    (pin-is (c .before .match .keys1) (omega arith) (at-pin-byte .pin-byte .ensures)) (c .usual-fall .ensures)
 
 returns-4 : tie.Need-returns-4
-returns-4 c = sorted-rise (c .before .before .before .before .before .before .args .row) (c .before .before .before .before .before .before .args .s) (c .before .before .before .before .before .before .args .trace .now) (c .before .before .before .before .before .before .args .at) (c .before .before .before .before .before .before .args .room) (c .before .before .before .before .if1 .left) (c .usual-rise .result) (pin-is (c .before .before .before .pin-byte .result) 1 (c .before .match .keys2) (omega arith) (c .before .before .before .pin-byte .ensures)) (c .usual-rise .ensures)
+returns-4 c =
+    let at-pin-byte = c .before .before .before in
+    let at-if1 = at-pin-byte .before in
+    let given = at-if1 .before .before .args in
+    sorted-rise (given .row) (given .s) (given .room) (at-if1 .if1 .left) (c .usual-rise .result)
+    (pin-is (c .before .match .keys2) (omega arith) (at-pin-byte .pin-byte .ensures)) (c .usual-rise .ensures)
 
 returns-5 : tie.Need-returns-5
 returns-5 c = search needs

@@ -15,7 +15,10 @@ is-sending-requires : tie.Need-is-sending-requires
 is-sending-requires c κs = search needs
 
 returns-2 : tie.Need-returns-2
-returns-2 c = fall-still (c .before .before .before .before .before .args .row) (c .before .before .before .before .before .args .s) (c .before .before .is-decoding .result) (c .before .is-sending .result) (c .before .before .is-decoding .ensures) (c .before .is-sending .ensures) (c .before .before .before .if1 .left) (c .if2 .taken)
+returns-2 c =
+    let at-is-decoding = c .before .before in
+    let given = at-is-decoding .before .before .before .args in
+    fall-still (given .row) (given .s) (at-is-decoding .is-decoding .ensures) (c .before .is-sending .ensures) (c .before .before .before .if1 .left) (c .if2 .taken)
 
 returns-3 : tie.Need-returns-3
 returns-3 c = search needs
@@ -39,19 +42,51 @@ enum-told-5 : tie.Need-enum-told-5
 enum-told-5 c = search needs
 
 returns-4 : tie.Need-returns-4
-returns-4 c = fall-shift (c .before .before .before .before .before .before .before .before .before .before .args .row) (c .before .before .before .before .before .before .before .before .before .before .args .s) (c .before .before .before .before .before .before .before .is-decoding .result) (c .before .before .before .before .before .before .is-sending .result) (c .before .before .before .before .before .before .before .is-decoding .ensures) (c .before .before .before .before .before .before .is-sending .ensures) (c .before .before .before .before .before .before .before .before .if1 .left) (c .before .before .source-of .result) _ (c .before .before .before .before .before .if2 .left) (c .before .before .before .if3 .left) (c .before .before .source-of .ensures) (c .enum-told .given .1) refl
+returns-4 c =
+    let at-source-of = c .before .before in
+    let at-if2 = at-source-of .before .before .before in
+    let at-is-sending = at-if2 .before in
+    let at-is-decoding = at-is-sending .before in
+    let at-if1 = at-is-decoding .before in
+    let given = at-if1 .before .before .args in
+    fall-shift (given .row) (given .s) (at-is-decoding .is-decoding .ensures) (at-is-sending .is-sending .ensures) (at-if1 .if1 .left) (at-if2 .if2 .left)
+    (c .before .before .before .if3 .left) (at-source-of .source-of .ensures) (c .enum-told .given .1) refl
 
 returns-5 : tie.Need-returns-5
-returns-5 c = fall-shift (c .before .before .before .before .before .before .before .before .before .before .args .row) (c .before .before .before .before .before .before .before .before .before .before .args .s) (c .before .before .before .before .before .before .before .is-decoding .result) (c .before .before .before .before .before .before .is-sending .result) (c .before .before .before .before .before .before .before .is-decoding .ensures) (c .before .before .before .before .before .before .is-sending .ensures) (c .before .before .before .before .before .before .before .before .if1 .left) (c .before .before .source-of .result) _ (c .before .before .before .before .before .if2 .left) (c .before .before .before .if3 .left) (c .before .before .source-of .ensures) (c .enum-told2 .given .1) refl
+returns-5 c =
+    let at-source-of = c .before .before in
+    let at-if2 = at-source-of .before .before .before in
+    let at-is-sending = at-if2 .before in
+    let at-is-decoding = at-is-sending .before in
+    let at-if1 = at-is-decoding .before in
+    let given = at-if1 .before .before .args in
+    fall-shift (given .row) (given .s) (at-is-decoding .is-decoding .ensures) (at-is-sending .is-sending .ensures) (at-if1 .if1 .left) (at-if2 .if2 .left)
+    (c .before .before .before .if3 .left) (at-source-of .source-of .ensures) (c .enum-told2 .given .1) refl
 
 returns-6 : tie.Need-returns-6
-returns-6 c = fall-shift (c .before .before .before .before .before .before .before .before .before .before .args .row) (c .before .before .before .before .before .before .before .before .before .before .args .s) (c .before .before .before .before .before .before .before .is-decoding .result) (c .before .before .before .before .before .before .is-sending .result) (c .before .before .before .before .before .before .before .is-decoding .ensures) (c .before .before .before .before .before .before .is-sending .ensures) (c .before .before .before .before .before .before .before .before .if1 .left) (c .before .before .source-of .result) _ (c .before .before .before .before .before .if2 .left) (c .before .before .before .if3 .left) (c .before .before .source-of .ensures) (c .enum-told3 .given .1) refl
+returns-6 c =
+    let at-source-of = c .before .before in
+    let at-if2 = at-source-of .before .before .before in
+    let at-is-sending = at-if2 .before in
+    let at-is-decoding = at-is-sending .before in
+    let at-if1 = at-is-decoding .before in
+    let given = at-if1 .before .before .args in
+    fall-shift (given .row) (given .s) (at-is-decoding .is-decoding .ensures) (at-is-sending .is-sending .ensures) (at-if1 .if1 .left) (at-if2 .if2 .left)
+    (c .before .before .before .if3 .left) (at-source-of .source-of .ensures) (c .enum-told3 .given .1) refl
 
 returns-7 : tie.Need-returns-7
 returns-7 c = search needs
 
 returns-8 : tie.Need-returns-8
-returns-8 c = fall-shift (c .before .before .before .before .before .before .before .before .before .before .args .row) (c .before .before .before .before .before .before .before .before .before .before .args .s) (c .before .before .before .before .before .before .before .is-decoding .result) (c .before .before .before .before .before .before .is-sending .result) (c .before .before .before .before .before .before .before .is-decoding .ensures) (c .before .before .before .before .before .before .is-sending .ensures) (c .before .before .before .before .before .before .before .before .if1 .left) (c .before .before .source-of .result) _ (c .before .before .before .before .before .if2 .left) (c .before .before .before .if3 .left) (c .before .before .source-of .ensures) (c .enum-told5 .given .1) refl
+returns-8 c =
+    let at-source-of = c .before .before in
+    let at-if2 = at-source-of .before .before .before in
+    let at-is-sending = at-if2 .before in
+    let at-is-decoding = at-is-sending .before in
+    let at-if1 = at-is-decoding .before in
+    let given = at-if1 .before .before .args in
+    fall-shift (given .row) (given .s) (at-is-decoding .is-decoding .ensures) (at-is-sending .is-sending .ensures) (at-if1 .if1 .left) (at-if2 .if2 .left)
+    (c .before .before .before .if3 .left) (at-source-of .source-of .ensures) (c .enum-told5 .given .1) refl
 
 pub usual-fall-spec : {M : Type 1} → statement M
 usual-fall-spec =

@@ -11,7 +11,10 @@ returns : tie.Need-returns
 returns c = search needs
 
 returns-2 : tie.Need-returns-2
-returns-2 c = rise-bit (c .before .before .before .before .before .args .row) (c .before .before .before .before .before .args .s) (c .before .before .before .before .is-decoding .result) (c .before .before .before .before .is-decoding .ensures) (c .before .before .if1 .left) (c .if2 .taken)
+returns-2 c =
+    let at-is-decoding = c .before .before .before .before in
+    let given = at-is-decoding .before .args in
+    rise-bit (given .row) (given .s) (at-is-decoding .is-decoding .ensures) (c .before .before .if1 .left) (c .if2 .taken)
 
 only-counts-requires : tie.Need-only-counts-requires
 only-counts-requires c κs = search needs
@@ -20,7 +23,11 @@ returns-3 : tie.Need-returns-3
 returns-3 c = search needs
 
 returns-4 : tie.Need-returns-4
-returns-4 c = rise-whole (c .before .before .before .before .before .before .before .args .row) (c .before .before .before .before .before .before .before .args .s) (c .before .before .before .before .before .before .is-decoding .result) (c .before .before .before .before .before .before .is-decoding .ensures) (c .before .before .before .before .if1 .left) (c .before .only-counts .result) (c .before .only-counts .ensures) (c .before .before .if2 .left) (c .if3 .left)
+returns-4 c =
+    let at-if1 = c .before .before .before .before in
+    let at-is-decoding = at-if1 .before .before in
+    let given = at-is-decoding .before .args in
+    rise-whole (given .row) (given .s) (at-is-decoding .is-decoding .ensures) (at-if1 .if1 .left) (c .before .only-counts .ensures) (c .before .before .if2 .left) (c .if3 .left)
 
 pub usual-rise-spec : {M : Type 1} → statement M
 usual-rise-spec =

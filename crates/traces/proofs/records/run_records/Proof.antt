@@ -1,11 +1,6 @@
 -- `traces::records::run_records` meets its contract.
-use Rattle.traces.specs.declared.quick.Usual.{Usual}
-use Rattle.rules.specs.declared.Event.{Event}
-use Rattle.rules.specs.Trace.{progressOf, run}
-use Rattle.rules.specs.World.{worldOf}
-use mathlib.Core.Bool.{true, false}
-use lib.Dec.{ltb}
-use lib.ListN.{length}
+use Rattle.rules.specs.Trace.{Progress, progressOf, run}
+use Rattle.rules.specs.World.{World, worldOf}
 use native.Mathlib.Nat.{sub-zero}
 use Prim.Native.Nat.{ℕ, _-_}
 use borrow.Author.Tests.{ltb-true}
@@ -27,187 +22,398 @@ abbrev μ-loop : tie.MeasureT-loop
     limit - n
 
 loop-holds : tie.Need-loop-holds Inv-loop μ-loop
-loop-holds c = record { sound = c .before .before .before .before .before .pre .1; lent = c .before .before .before .before .before .pre .2; long = refl; below = omega arith; same = ap (λ (m : ℕ). run m (c .before .before .before .before .before .args .row) (c .before .before .before .before .before .args .trace .now) (progressOf 0 0 0 (worldOf (c .before .before .before .before .before .args .s) (c .before .before .before .before .before .args .cells .now) (c .before .before .before .before .before .args .identification .now) (c .before .before .before .before .before .args .latch .now)) (c .before .before .before .before .before .args .answers .now))) (sym (sub-zero (c .before .before .before .before .before .args .limit))) }
+loop-holds c =
+    let start = c .before .before .before .before .before in
+    let given = start .args in
+    let first : World = worldOf (given .s) (given .cells .now) (given .identification .now) (given .latch .now) in
+    let whole : ℕ → Progress = λ (m : ℕ). run m (given .row) (given .trace .now) (progressOf 0 0 0 first (given .answers .now)) in
+    record { sound = start .pre .1; lent = start .pre .2; long = refl; below = omega arith; same = ap whole (sym (sub-zero (given .limit))) }
 
 same-length : tie.Need-same-length Inv-loop μ-loop
-same-length c = omega (arith, c .before .before .loop .inv .lent .cells, c .before .before .before .before .before .before .before .before .pre .2 .cells)
+same-length c =
+    let start = c .before .before .before .before .before .before .before .before in
+    omega (arith, c .before .before .loop .inv .lent .cells, start .pre .2 .cells)
 
 same-length-2 : tie.Need-same-length-2 Inv-loop μ-loop
-same-length-2 c = omega (arith, c .before .before .loop .inv .lent .identification, c .before .before .before .before .before .before .before .before .pre .2 .identification)
+same-length-2 c =
+    let start = c .before .before .before .before .before .before .before .before in
+    omega (arith, c .before .before .loop .inv .lent .identification, start .pre .2 .identification)
 
 same-length-3 : tie.Need-same-length-3 Inv-loop μ-loop
-same-length-3 c = omega (arith, c .before .before .loop .inv .lent .latch, c .before .before .before .before .before .before .before .before .pre .2 .latch)
+same-length-3 c =
+    let start = c .before .before .before .before .before .before .before .before in
+    omega (arith, c .before .before .loop .inv .lent .latch, start .pre .2 .latch)
 
 same-length-4 : tie.Need-same-length-4 Inv-loop μ-loop
 same-length-4 c = c .before .before .loop .inv .long
 
 returns : tie.Need-returns Inv-loop μ-loop
-returns c = ends-trace (c .before .before .before .before .before .before .before .before .args .row) (c .before .before .before .before .before .before .before .before .args .trace .now) (c .before .before .before .before .before .before .before .before .args .limit) _ _ (worldOf (c .before .before .loop .t) (c .before .before .loop .cells) (c .before .before .loop .identification) (c .before .before .loop .latch)) (c .before .before .loop .answers) (c .before .before .loop .at) (c .before .before .loop .n) (c .before .before .loop .inv) (c .if1 .taken)
+returns c =
+    let head = c .before .before in
+    ends-trace (head .loop .inv) (c .if1 .taken)
 
 sorted-requires : tie.Need-sorted-requires Inv-loop μ-loop
-sorted-requires c κs = (c .before .before .before .before .before .before .before .before .pre .0, c .before .before .loop .inv .sound .unsettled .inside, omega (arith, c .if1 .left))
+sorted-requires c κs =
+    let start = c .before .before .before .before .before .before .before .before in
+    (start .pre .0, c .before .before .loop .inv .sound .unsettled .inside, omega (arith, c .if1 .left))
 
 enum-told : tie.Need-enum-told Inv-loop μ-loop
 enum-told c = search needs
 
 one-requires : tie.Need-one-requires Inv-loop μ-loop
-one-requires c κs = (c .before .before .before .before .before .before .before .before .before .before .before .before .before .before .before .pre .0, c .before .before .before .before .before .before .before .before .before .loop .inv .sound, c .before .before .before .before .before .before .before .before .before .loop .inv .lent, c .before .before .before .before .before .before .before .if1 .left)
+one-requires c κs =
+    let at-if1 = c .before .before .before .before .before .before .before in
+    let head = at-if1 .before .before in
+    let start = head .before .before .before .before .before .before in
+    (start .pre .0, head .loop .inv .sound, head .loop .inv .lent, at-if1 .if1 .left)
 
 same-length-5 : tie.Need-same-length-5 Inv-loop μ-loop
-same-length-5 c = omega (arith, c .before .before .before .before .before .before .before .before .before .before .before .before .before .before .before .before .before .before .before .before .before .loop .inv .lent .cells, c .before .before .before .before .before .before .before .before .before .before .before .before .before .before .before .before .before .before .before .before .before .before .before .before .before .before .before .pre .2 .cells, c .before .before .before .before .before .before .before .before .before .before .cells .given)
+same-length-5 c =
+    let at-cells = c .before .before .before .before .before .before .before .before .before .before in
+    let head = at-cells .before .before .before .before .before .before .before .before .before .before .before in
+    let start = head .before .before .before .before .before .before in
+    omega (arith, head .loop .inv .lent .cells, start .pre .2 .cells, at-cells .cells .given)
 
 same-length-6 : tie.Need-same-length-6 Inv-loop μ-loop
-same-length-6 c = omega (arith, c .before .before .before .before .before .before .before .before .before .before .before .before .before .before .before .before .before .before .before .before .before .loop .inv .lent .identification, c .before .before .before .before .before .before .before .before .before .before .before .before .before .before .before .before .before .before .before .before .before .before .before .before .before .before .before .pre .2 .identification, c .before .before .before .before .before .before .before .before .identification .given)
+same-length-6 c =
+    let at-identification = c .before .before .before .before .before .before .before .before in
+    let head = at-identification .before .before .before .before .before .before .before .before .before .before .before .before .before in
+    let start = head .before .before .before .before .before .before in
+    omega (arith, head .loop .inv .lent .identification, start .pre .2 .identification, at-identification .identification .given)
 
 same-length-7 : tie.Need-same-length-7 Inv-loop μ-loop
-same-length-7 c = omega (arith, c .before .before .before .before .before .before .before .before .before .before .before .before .before .before .before .before .before .before .before .before .before .loop .inv .lent .latch, c .before .before .before .before .before .before .before .before .before .before .before .before .before .before .before .before .before .before .before .before .before .before .before .before .before .before .before .pre .2 .latch, c .before .before .before .before .before .before .latch .given)
+same-length-7 c =
+    let at-latch = c .before .before .before .before .before .before in
+    let head = at-latch .before .before .before .before .before .before .before .before .before .before .before .before .before .before .before in
+    let start = head .before .before .before .before .before .before in
+    omega (arith, head .loop .inv .lent .latch, start .pre .2 .latch, at-latch .latch .given)
 
 same-length-8 : tie.Need-same-length-8 Inv-loop μ-loop
-same-length-8 c = omega (arith, c .before .before .before .before .before .before .before .before .before .before .before .before .before .before .before .before .before .before .before .before .before .loop .inv .long, c .before .before .before .before .answers .given)
+same-length-8 c =
+    let at-answers = c .before .before .before .before in
+    let head = at-answers .before .before .before .before .before .before .before .before .before .before .before .before .before .before .before .before .before in
+    omega (arith, head .loop .inv .long, at-answers .answers .given)
 
 returns-2 : tie.Need-returns-2 Inv-loop μ-loop
-returns-2 c = ends-refused (c .before .before .before .before .before .before .before .before .before .before .before .before .before .before .before .before .before .before .before .before .before .before .before .before .before .before .before .args .row) (c .before .before .before .before .before .before .before .before .before .before .before .before .before .before .before .before .before .before .before .before .before .before .before .before .before .before .before .args .trace .now) (c .before .before .before .before .before .before .before .before .before .before .before .before .before .before .before .before .before .before .before .before .before .before .before .before .before .before .before .args .limit) _ _ (worldOf (c .before .before .before .before .before .before .before .before .before .before .before .before .before .before .before .before .before .before .before .before .before .loop .t) (c .before .before .before .before .before .before .before .before .before .before .before .before .before .before .before .before .before .before .before .before .before .loop .cells) (c .before .before .before .before .before .before .before .before .before .before .before .before .before .before .before .before .before .before .before .before .before .loop .identification) (c .before .before .before .before .before .before .before .before .before .before .before .before .before .before .before .before .before .before .before .before .before .loop .latch)) (c .before .before .before .before .before .before .before .before .before .before .before .before .before .before .before .before .before .before .before .before .before .loop .answers) (c .before .before .before .before .before .before .before .before .before .before .before .before .before .before .before .before .before .before .before .before .before .loop .at) (c .before .before .before .before .before .before .before .before .before .before .before .before .before .before .before .before .before .before .before .before .before .loop .n) (c .before .before .before .before .before .before .before .before .before .before .before .before .before .before .before .before .before .before .before .before .before .loop .inv) _ (c .before .before .before .before .before .before .before .before .before .before .before .before .before .before .before .before .before .before .before .before .loop-test .taken) (c .before .before .before .before .before .before .before .before .before .before .before .one .ensures) (c .before .if2 .taken)
+returns-2 c =
+    let at-one = c .before .before .before .before .before .before .before .before .before .before .before in
+    let at-loop-test = at-one .before .before .before .before .before .before .before .before .before in
+    let head = at-loop-test .before in
+    ends-refused (head .loop .inv) (at-loop-test .loop-test .taken) (at-one .one .ensures) (c .before .if2 .taken)
 
 loop-less : tie.Need-loop-less Inv-loop μ-loop
-loop-less c = let e = one-more (c .before .before .before .before .before .before .before .before .before .before .before .before .before .before .before .before .before .before .before .before .before .before .before .before .before .before .before .args .row) (c .before .before .before .before .before .before .before .before .before .before .before .before .before .before .before .before .before .before .before .before .before .before .before .before .before .before .before .args .trace .now) (c .before .before .before .before .before .before .before .before .before .before .before .before .before .before .before .before .before .before .before .before .before .before .before .before .before .before .before .args .limit) _ _ (worldOf (c .before .before .before .before .before .before .before .before .before .before .before .before .before .before .before .before .before .before .before .before .before .loop .t) (c .before .before .before .before .before .before .before .before .before .before .before .before .before .before .before .before .before .before .before .before .before .loop .cells) (c .before .before .before .before .before .before .before .before .before .before .before .before .before .before .before .before .before .before .before .before .before .loop .identification) (c .before .before .before .before .before .before .before .before .before .before .before .before .before .before .before .before .before .before .before .before .before .loop .latch)) (c .before .before .before .before .before .before .before .before .before .before .before .before .before .before .before .before .before .before .before .before .before .loop .answers) (c .before .before .before .before .before .before .before .before .before .before .before .before .before .before .before .before .before .before .before .before .before .loop .at) (c .before .before .before .before .before .before .before .before .before .before .before .before .before .before .before .before .before .before .before .before .before .loop .n) (c .before .before .before .before .before .before .before .before .before .before .before .before .before .before .before .before .before .before .before .before .before .loop .inv) (c .before .before .before .before .before .before .before .before .before .before .before .before .before .before .before .before .before .before .before .before .before .before .before .before .before .before .before .pre .0) (c .before .before .before .before .before .before .before .before .before .before .before .before .before .before .before .before .before .before .before .if1 .left) (c .before .before .before .before .before .before .before .before .before .before .before .before .before .before .before .before .before .before .before .before .loop-test .taken) _ (c .before .before .before .before .before .before .before .before .before .before .before .one .ensures) (c .before .if2 .left) in omega (arith, e, c .before .before .before .before .before .before .before .before .before .before .before .before .before .before .before .before .before .before .before .before .loop-test .taken)
+loop-less c =
+    let at-one = c .before .before .before .before .before .before .before .before .before .before .before in
+    let at-if1 = at-one .before .before .before .before .before .before .before .before in
+    let at-loop-test = at-if1 .before in
+    let head = at-loop-test .before in
+    let start = head .before .before .before .before .before .before in
+    let e = one-more (head .loop .inv) (start .pre .0) (at-if1 .if1 .left) (at-loop-test .loop-test .taken) (at-one .one .ensures) (c .before .if2 .left) in
+    omega (arith, e, at-loop-test .loop-test .taken)
 
 loop-again : tie.Need-loop-again Inv-loop μ-loop
-loop-again c = goes-on (c .before .before .before .before .before .before .before .before .before .before .before .before .before .before .before .before .before .before .before .before .before .before .before .before .before .before .before .args .row) (c .before .before .before .before .before .before .before .before .before .before .before .before .before .before .before .before .before .before .before .before .before .before .before .before .before .before .before .args .trace .now) (c .before .before .before .before .before .before .before .before .before .before .before .before .before .before .before .before .before .before .before .before .before .before .before .before .before .before .before .args .limit) _ _ (worldOf (c .before .before .before .before .before .before .before .before .before .before .before .before .before .before .before .before .before .before .before .before .before .loop .t) (c .before .before .before .before .before .before .before .before .before .before .before .before .before .before .before .before .before .before .before .before .before .loop .cells) (c .before .before .before .before .before .before .before .before .before .before .before .before .before .before .before .before .before .before .before .before .before .loop .identification) (c .before .before .before .before .before .before .before .before .before .before .before .before .before .before .before .before .before .before .before .before .before .loop .latch)) (c .before .before .before .before .before .before .before .before .before .before .before .before .before .before .before .before .before .before .before .before .before .loop .answers) (c .before .before .before .before .before .before .before .before .before .before .before .before .before .before .before .before .before .before .before .before .before .loop .at) (c .before .before .before .before .before .before .before .before .before .before .before .before .before .before .before .before .before .before .before .before .before .loop .n) (c .before .before .before .before .before .before .before .before .before .before .before .before .before .before .before .before .before .before .before .before .before .loop .inv) (c .before .before .before .before .before .before .before .before .before .before .before .before .before .before .before .before .before .before .before .before .before .before .before .before .before .before .before .pre .0) (c .before .before .before .before .before .before .before .before .before .before .before .before .before .before .before .before .before .before .before .if1 .left) (c .before .before .before .before .before .before .before .before .before .before .before .before .before .before .before .before .before .before .before .before .loop-test .taken) _ (c .before .before .before .before .before .before .before .before .before .before .before .one .ensures) (c .before .if2 .left)
+loop-again c =
+    let at-one = c .before .before .before .before .before .before .before .before .before .before .before in
+    let at-if1 = at-one .before .before .before .before .before .before .before .before in
+    let at-loop-test = at-if1 .before in
+    let head = at-loop-test .before in
+    let start = head .before .before .before .before .before .before in
+    goes-on (head .loop .inv) (start .pre .0) (at-if1 .if1 .left) (at-loop-test .loop-test .taken) (at-one .one .ensures) (c .before .if2 .left)
 
 enum-known-way : tie.Need-enum-known-way Inv-loop μ-loop
 enum-known-way c = search needs
 
 quick-data-requires : tie.Need-quick-data-requires Inv-loop μ-loop
-quick-data-requires c κs = c .before .before .before .before .before .before .loop .inv .sound .holds
+quick-data-requires c κs =
+    let head = c .before .before .before .before .before .before in
+    head .loop .inv .sound .holds
 
 answer-requires : tie.Need-answer-requires Inv-loop μ-loop
 answer-requires c κs = search needs
 
 slice-write-answers : tie.Need-slice-write-answers Inv-loop μ-loop
-slice-write-answers c = let k = known-way (c .before .before .before .before .before .before .before .before .before .before .before .before .before .before .args .row) (c .before .before .before .before .before .before .before .before .loop .t) (c .before .before .before .before .before .before .before .before .before .before .before .before .before .before .args .trace .now) (c .before .before .before .before .before .before .before .before .loop .at) (ltb (c .before .before .before .before .before .before .before .before .loop .n) (length (c .before .before .before .before .before .before .before .before .loop .answers))) (c .before .before .before .before .before .sorted .result) _ (c .before .before .before .way .given .1) (c .before .before .before .before .before .sorted .ensures) in ltb-true (c .before .before .before .before .before .before .before .before .loop .n) (length (c .before .before .before .before .before .before .before .before .loop .answers)) (k .0)
+slice-write-answers c =
+    let at-sorted = c .before .before .before .before .before in
+    let head = at-sorted .before .before .before in
+    let given = head .before .before .before .before .before .before .args in
+    let k = known-way (given .row) (head .loop .t) _ _ _ (c .before .before .before .way .given .1) (at-sorted .sorted .ensures) in
+    ltb-true _ _ (k .0)
 
 add-at : tie.Need-add-at Inv-loop μ-loop
-add-at c = let k = known-way (c .before .before .before .before .before .before .before .before .before .before .before .before .before .before .args .row) (c .before .before .before .before .before .before .before .before .loop .t) (c .before .before .before .before .before .before .before .before .before .before .before .before .before .before .args .trace .now) (c .before .before .before .before .before .before .before .before .loop .at) (ltb (c .before .before .before .before .before .before .before .before .loop .n) (length (c .before .before .before .before .before .before .before .before .loop .answers))) (c .before .before .before .before .before .sorted .result) _ (c .before .before .before .way .given .1) (c .before .before .before .before .before .sorted .ensures) in let w = k .1 .whole in omega (arith, w, c .before .before .before .before .before .before .if1 .left, c .before .before .before .before .before .before .before .before .before .before .before .before .before .before .good)
+add-at c =
+    let at-sorted = c .before .before .before .before .before in
+    let at-if1 = at-sorted .before in
+    let head = at-if1 .before .before in
+    let start = head .before .before .before .before .before .before in
+    let given = start .args in
+    let k = known-way (given .row) (head .loop .t) _ _ _ (c .before .before .before .way .given .1) (at-sorted .sorted .ensures) in
+    omega (arith, k .1 .whole, at-if1 .if1 .left, start .good)
 
 add-n : tie.Need-add-n Inv-loop μ-loop
-add-n c = omega (arith, c .before .before .before .before .before .before .before .loop-test .taken, c .before .before .before .before .before .before .before .before .before .before .before .before .before .before .fits .limit .fits)
+add-n c =
+    let at-loop-test = c .before .before .before .before .before .before .before in
+    let start = at-loop-test .before .before .before .before .before .before .before in
+    omega (arith, at-loop-test .loop-test .taken, start .fits .limit .fits)
 
 loop-less-2 : tie.Need-loop-less-2 Inv-loop μ-loop
-loop-less-2 c = omega (arith, c .before .before .before .before .before .before .before .loop-test .taken)
+loop-less-2 c =
+    let at-loop-test = c .before .before .before .before .before .before .before in
+    omega (arith, at-loop-test .loop-test .taken)
 
 loop-again-2 : tie.Need-loop-again-2 Inv-loop μ-loop
-loop-again-2 c = let k = known-way (c .before .before .before .before .before .before .before .before .before .before .before .before .before .before .args .row) (c .before .before .before .before .before .before .before .before .loop .t) (c .before .before .before .before .before .before .before .before .before .before .before .before .before .before .args .trace .now) (c .before .before .before .before .before .before .before .before .loop .at) (ltb (c .before .before .before .before .before .before .before .before .loop .n) (length (c .before .before .before .before .before .before .before .before .loop .answers))) (c .before .before .before .before .before .sorted .result) _ (c .before .before .before .way .given .1) (c .before .before .before .before .before .sorted .ensures) in pin-on (c .before .before .before .before .before .before .before .before .before .before .before .before .before .before .args .row) (c .before .before .before .before .before .before .before .before .before .before .before .before .before .before .args .trace .now) (c .before .before .before .before .before .before .before .before .before .before .before .before .before .before .args .limit) _ _ (worldOf (c .before .before .before .before .before .before .before .before .loop .t) (c .before .before .before .before .before .before .before .before .loop .cells) (c .before .before .before .before .before .before .before .before .loop .identification) (c .before .before .before .before .before .before .before .before .loop .latch)) (c .before .before .before .before .before .before .before .before .loop .answers) (c .before .before .before .before .before .before .before .before .loop .at) (c .before .before .before .before .before .before .before .before .loop .n) (c .before .before .before .before .before .before .before .before .loop .inv) (c .before .before .before .before .before .before .before .before .before .before .before .before .before .before .pre .0) (c .before .before .before .before .before .before .if1 .left) (c .before .before .before .before .before .before .before .loop-test .taken) _ (c .answer .result) (Event.Data _) (worldOf (c .before .quick-data .result) (c .before .before .before .before .before .before .before .before .loop .cells) (c .before .before .before .before .before .before .before .before .loop .identification) (c .before .before .before .before .before .before .before .before .loop .latch)) (k .1) (data-small (c .before .before .before .way .given .0 .0)) (data-pin (c .before .before .before .way .given .0 .0)) refl (k .0) (data-alone (c .before .before .before .before .before .before .before .before .before .before .before .before .before .before .args .row) (c .before .before .before .before .before .before .before .before .loop .t) (c .before .quick-data .result) (c .before .before .before .before .before .before .before .before .loop .cells) (c .before .before .before .before .before .before .before .before .loop .identification) (c .before .before .before .before .before .before .before .before .loop .latch) _ (c .before .quick-data .ensures)) (c .answer .ensures)
+loop-again-2 c =
+    let at-way = c .before .before .before in
+    let at-sorted = at-way .before .before in
+    let at-if1 = at-sorted .before in
+    let at-loop-test = at-if1 .before in
+    let head = at-loop-test .before in
+    let start = head .before .before .before .before .before .before in
+    let given = start .args in
+    let k = known-way (given .row) (head .loop .t) _ _ _ (at-way .way .given .1) (at-sorted .sorted .ensures) in
+    pin-on (head .loop .inv) (start .pre .0) (at-if1 .if1 .left) (at-loop-test .loop-test .taken) (k .1) (data-small (at-way .way .given .0 .0))
+    (data-pin (at-way .way .given .0 .0)) refl (k .0) (data-alone (given .row) (head .loop .t) _ (c .before .quick-data .ensures)) (c .answer .ensures)
 
 enum-told-2 : tie.Need-enum-told-2 Inv-loop μ-loop
 enum-told-2 c = search needs
 
 quick-bit-requires : tie.Need-quick-bit-requires Inv-loop μ-loop
-quick-bit-requires c κs = let k = known-way (c .before .before .before .before .before .before .before .before .before .before .before .args .row) (c .before .before .before .before .before .loop .t) (c .before .before .before .before .before .before .before .before .before .before .before .args .trace .now) (c .before .before .before .before .before .loop .at) (ltb (c .before .before .before .before .before .loop .n) (length (c .before .before .before .before .before .loop .answers))) (c .before .before .sorted .result) Usual.Bit (c .enum-told2 .given .1) (c .before .before .sorted .ensures) in (c .before .before .before .before .before .loop .inv .sound .unsettled .input, k .2 .0, k .2 .1, k .2 .2)
+quick-bit-requires c κs =
+    let at-sorted = c .before .before in
+    let head = at-sorted .before .before .before in
+    let given = head .before .before .before .before .before .before .args in
+    let k = known-way (given .row) (head .loop .t) _ _ _ (c .enum-told2 .given .1) (at-sorted .sorted .ensures) in
+    (head .loop .inv .sound .unsettled .input, k .2 .0, k .2 .1, k .2 .2)
 
 answer-requires-2 : tie.Need-answer-requires-2 Inv-loop μ-loop
 answer-requires-2 c κs = search needs
 
 slice-write-answers-2 : tie.Need-slice-write-answers-2 Inv-loop μ-loop
-slice-write-answers-2 c = let k = known-way (c .before .before .before .before .before .before .before .before .before .before .before .before .before .args .row) (c .before .before .before .before .before .before .before .loop .t) (c .before .before .before .before .before .before .before .before .before .before .before .before .before .args .trace .now) (c .before .before .before .before .before .before .before .loop .at) (ltb (c .before .before .before .before .before .before .before .loop .n) (length (c .before .before .before .before .before .before .before .loop .answers))) (c .before .before .before .before .sorted .result) Usual.Bit (c .before .before .enum-told2 .given .1) (c .before .before .before .before .sorted .ensures) in ltb-true (c .before .before .before .before .before .before .before .loop .n) (length (c .before .before .before .before .before .before .before .loop .answers)) (k .0)
+slice-write-answers-2 c =
+    let at-sorted = c .before .before .before .before in
+    let head = at-sorted .before .before .before in
+    let given = head .before .before .before .before .before .before .args in
+    let k = known-way (given .row) (head .loop .t) _ _ _ (c .before .before .enum-told2 .given .1) (at-sorted .sorted .ensures) in
+    ltb-true _ _ (k .0)
 
 add-at-2 : tie.Need-add-at-2 Inv-loop μ-loop
-add-at-2 c = let k = known-way (c .before .before .before .before .before .before .before .before .before .before .before .before .before .args .row) (c .before .before .before .before .before .before .before .loop .t) (c .before .before .before .before .before .before .before .before .before .before .before .before .before .args .trace .now) (c .before .before .before .before .before .before .before .loop .at) (ltb (c .before .before .before .before .before .before .before .loop .n) (length (c .before .before .before .before .before .before .before .loop .answers))) (c .before .before .before .before .sorted .result) Usual.Bit (c .before .before .enum-told2 .given .1) (c .before .before .before .before .sorted .ensures) in let w = k .1 .whole in omega (arith, w, c .before .before .before .before .before .if1 .left, c .before .before .before .before .before .before .before .before .before .before .before .before .before .good)
+add-at-2 c =
+    let at-sorted = c .before .before .before .before in
+    let at-if1 = at-sorted .before in
+    let head = at-if1 .before .before in
+    let start = head .before .before .before .before .before .before in
+    let given = start .args in
+    let k = known-way (given .row) (head .loop .t) _ _ _ (c .before .before .enum-told2 .given .1) (at-sorted .sorted .ensures) in
+    omega (arith, k .1 .whole, at-if1 .if1 .left, start .good)
 
 add-n-2 : tie.Need-add-n-2 Inv-loop μ-loop
-add-n-2 c = omega (arith, c .before .before .before .before .before .before .loop-test .taken, c .before .before .before .before .before .before .before .before .before .before .before .before .before .fits .limit .fits)
+add-n-2 c =
+    let at-loop-test = c .before .before .before .before .before .before in
+    let start = at-loop-test .before .before .before .before .before .before .before in
+    omega (arith, at-loop-test .loop-test .taken, start .fits .limit .fits)
 
 loop-less-3 : tie.Need-loop-less-3 Inv-loop μ-loop
-loop-less-3 c = omega (arith, c .before .before .before .before .before .before .loop-test .taken)
+loop-less-3 c =
+    let at-loop-test = c .before .before .before .before .before .before in
+    omega (arith, at-loop-test .loop-test .taken)
 
 loop-again-3 : tie.Need-loop-again-3 Inv-loop μ-loop
-loop-again-3 c = let k = known-way (c .before .before .before .before .before .before .before .before .before .before .before .before .before .args .row) (c .before .before .before .before .before .before .before .loop .t) (c .before .before .before .before .before .before .before .before .before .before .before .before .before .args .trace .now) (c .before .before .before .before .before .before .before .loop .at) (ltb (c .before .before .before .before .before .before .before .loop .n) (length (c .before .before .before .before .before .before .before .loop .answers))) (c .before .before .before .before .sorted .result) Usual.Bit (c .before .before .enum-told2 .given .1) (c .before .before .before .before .sorted .ensures) in pin-on (c .before .before .before .before .before .before .before .before .before .before .before .before .before .args .row) (c .before .before .before .before .before .before .before .before .before .before .before .before .before .args .trace .now) (c .before .before .before .before .before .before .before .before .before .before .before .before .before .args .limit) _ _ (worldOf (c .before .before .before .before .before .before .before .loop .t) (c .before .before .before .before .before .before .before .loop .cells) (c .before .before .before .before .before .before .before .loop .identification) (c .before .before .before .before .before .before .before .loop .latch)) (c .before .before .before .before .before .before .before .loop .answers) (c .before .before .before .before .before .before .before .loop .at) (c .before .before .before .before .before .before .before .loop .n) (c .before .before .before .before .before .before .before .loop .inv) (c .before .before .before .before .before .before .before .before .before .before .before .before .before .pre .0) (c .before .before .before .before .before .if1 .left) (c .before .before .before .before .before .before .loop-test .taken) 1 (c .answer2 .result) (Event.Clock true) (worldOf (c .before .quick-bit .result) (c .before .before .before .before .before .before .before .loop .cells) (c .before .before .before .before .before .before .before .loop .identification) (c .before .before .before .before .before .before .before .loop .latch)) (k .1) (omega arith) refl refl (k .0) (bit-alone (c .before .before .before .before .before .before .before .before .before .before .before .before .before .args .row) (c .before .before .before .before .before .before .before .loop .t) (c .before .quick-bit .result) (c .before .before .before .before .before .before .before .loop .cells) (c .before .before .before .before .before .before .before .loop .identification) (c .before .before .before .before .before .before .before .loop .latch) (k .2 .2) (c .before .quick-bit .ensures)) (c .answer2 .ensures)
+loop-again-3 c =
+    let at-sorted = c .before .before .before .before in
+    let at-if1 = at-sorted .before in
+    let at-loop-test = at-if1 .before in
+    let head = at-loop-test .before in
+    let start = head .before .before .before .before .before .before in
+    let given = start .args in
+    let k = known-way (given .row) (head .loop .t) _ _ _ (c .before .before .enum-told2 .given .1) (at-sorted .sorted .ensures) in
+    pin-on (head .loop .inv) (start .pre .0) (at-if1 .if1 .left) (at-loop-test .loop-test .taken) (k .1) (omega arith) refl refl (k .0)
+    (bit-alone (given .row) (head .loop .t) (k .2 .2) (c .before .quick-bit .ensures)) (c .answer2 .ensures)
 
 enum-told-3 : tie.Need-enum-told-3 Inv-loop μ-loop
 enum-told-3 c = search needs
 
 quick-still-requires : tie.Need-quick-still-requires Inv-loop μ-loop
-quick-still-requires c κs = let k = known-way (c .before .before .before .before .before .before .before .before .before .before .before .args .row) (c .before .before .before .before .before .loop .t) (c .before .before .before .before .before .before .before .before .before .before .before .args .trace .now) (c .before .before .before .before .before .loop .at) (ltb (c .before .before .before .before .before .loop .n) (length (c .before .before .before .before .before .loop .answers))) (c .before .before .sorted .result) Usual.Still (c .enum-told3 .given .1) (c .before .before .sorted .ensures) in (k .2 .0, k .2 .1)
+quick-still-requires c κs =
+    let at-sorted = c .before .before in
+    let head = at-sorted .before .before .before in
+    let given = head .before .before .before .before .before .before .args in
+    let k = known-way (given .row) (head .loop .t) _ _ _ (c .enum-told3 .given .1) (at-sorted .sorted .ensures) in
+    (k .2 .0, k .2 .1)
 
 answer-requires-3 : tie.Need-answer-requires-3 Inv-loop μ-loop
 answer-requires-3 c κs = search needs
 
 slice-write-answers-3 : tie.Need-slice-write-answers-3 Inv-loop μ-loop
-slice-write-answers-3 c = let k = known-way (c .before .before .before .before .before .before .before .before .before .before .before .before .before .args .row) (c .before .before .before .before .before .before .before .loop .t) (c .before .before .before .before .before .before .before .before .before .before .before .before .before .args .trace .now) (c .before .before .before .before .before .before .before .loop .at) (ltb (c .before .before .before .before .before .before .before .loop .n) (length (c .before .before .before .before .before .before .before .loop .answers))) (c .before .before .before .before .sorted .result) Usual.Still (c .before .before .enum-told3 .given .1) (c .before .before .before .before .sorted .ensures) in ltb-true (c .before .before .before .before .before .before .before .loop .n) (length (c .before .before .before .before .before .before .before .loop .answers)) (k .0)
+slice-write-answers-3 c =
+    let at-sorted = c .before .before .before .before in
+    let head = at-sorted .before .before .before in
+    let given = head .before .before .before .before .before .before .args in
+    let k = known-way (given .row) (head .loop .t) _ _ _ (c .before .before .enum-told3 .given .1) (at-sorted .sorted .ensures) in
+    ltb-true _ _ (k .0)
 
 add-at-3 : tie.Need-add-at-3 Inv-loop μ-loop
-add-at-3 c = let k = known-way (c .before .before .before .before .before .before .before .before .before .before .before .before .before .args .row) (c .before .before .before .before .before .before .before .loop .t) (c .before .before .before .before .before .before .before .before .before .before .before .before .before .args .trace .now) (c .before .before .before .before .before .before .before .loop .at) (ltb (c .before .before .before .before .before .before .before .loop .n) (length (c .before .before .before .before .before .before .before .loop .answers))) (c .before .before .before .before .sorted .result) Usual.Still (c .before .before .enum-told3 .given .1) (c .before .before .before .before .sorted .ensures) in let w = k .1 .whole in omega (arith, w, c .before .before .before .before .before .if1 .left, c .before .before .before .before .before .before .before .before .before .before .before .before .before .good)
+add-at-3 c =
+    let at-sorted = c .before .before .before .before in
+    let at-if1 = at-sorted .before in
+    let head = at-if1 .before .before in
+    let start = head .before .before .before .before .before .before in
+    let given = start .args in
+    let k = known-way (given .row) (head .loop .t) _ _ _ (c .before .before .enum-told3 .given .1) (at-sorted .sorted .ensures) in
+    omega (arith, k .1 .whole, at-if1 .if1 .left, start .good)
 
 add-n-3 : tie.Need-add-n-3 Inv-loop μ-loop
-add-n-3 c = omega (arith, c .before .before .before .before .before .before .loop-test .taken, c .before .before .before .before .before .before .before .before .before .before .before .before .before .fits .limit .fits)
+add-n-3 c =
+    let at-loop-test = c .before .before .before .before .before .before in
+    let start = at-loop-test .before .before .before .before .before .before .before in
+    omega (arith, at-loop-test .loop-test .taken, start .fits .limit .fits)
 
 loop-less-4 : tie.Need-loop-less-4 Inv-loop μ-loop
-loop-less-4 c = omega (arith, c .before .before .before .before .before .before .loop-test .taken)
+loop-less-4 c =
+    let at-loop-test = c .before .before .before .before .before .before in
+    omega (arith, at-loop-test .loop-test .taken)
 
 loop-again-4 : tie.Need-loop-again-4 Inv-loop μ-loop
-loop-again-4 c = let k = known-way (c .before .before .before .before .before .before .before .before .before .before .before .before .before .args .row) (c .before .before .before .before .before .before .before .loop .t) (c .before .before .before .before .before .before .before .before .before .before .before .before .before .args .trace .now) (c .before .before .before .before .before .before .before .loop .at) (ltb (c .before .before .before .before .before .before .before .loop .n) (length (c .before .before .before .before .before .before .before .loop .answers))) (c .before .before .before .before .sorted .result) Usual.Still (c .before .before .enum-told3 .given .1) (c .before .before .before .before .sorted .ensures) in pin-on (c .before .before .before .before .before .before .before .before .before .before .before .before .before .args .row) (c .before .before .before .before .before .before .before .before .before .before .before .before .before .args .trace .now) (c .before .before .before .before .before .before .before .before .before .before .before .before .before .args .limit) _ _ (worldOf (c .before .before .before .before .before .before .before .loop .t) (c .before .before .before .before .before .before .before .loop .cells) (c .before .before .before .before .before .before .before .loop .identification) (c .before .before .before .before .before .before .before .loop .latch)) (c .before .before .before .before .before .before .before .loop .answers) (c .before .before .before .before .before .before .before .loop .at) (c .before .before .before .before .before .before .before .loop .n) (c .before .before .before .before .before .before .before .loop .inv) (c .before .before .before .before .before .before .before .before .before .before .before .before .before .pre .0) (c .before .before .before .before .before .if1 .left) (c .before .before .before .before .before .before .loop-test .taken) 0 (c .answer3 .result) (Event.Clock false) (worldOf (c .before .quick-still .result) (c .before .before .before .before .before .before .before .loop .cells) (c .before .before .before .before .before .before .before .loop .identification) (c .before .before .before .before .before .before .before .loop .latch)) (k .1) (omega arith) refl refl (k .0) (still-alone (c .before .before .before .before .before .before .before .before .before .before .before .before .before .args .row) (c .before .before .before .before .before .before .before .loop .t) (c .before .quick-still .result) (c .before .before .before .before .before .before .before .loop .cells) (c .before .before .before .before .before .before .before .loop .identification) (c .before .before .before .before .before .before .before .loop .latch) (k .2 .0) (k .2 .1) (c .before .quick-still .ensures)) (c .answer3 .ensures)
+loop-again-4 c =
+    let at-sorted = c .before .before .before .before in
+    let at-if1 = at-sorted .before in
+    let at-loop-test = at-if1 .before in
+    let head = at-loop-test .before in
+    let start = head .before .before .before .before .before .before in
+    let given = start .args in
+    let k = known-way (given .row) (head .loop .t) _ _ _ (c .before .before .enum-told3 .given .1) (at-sorted .sorted .ensures) in
+    pin-on (head .loop .inv) (start .pre .0) (at-if1 .if1 .left) (at-loop-test .loop-test .taken) (k .1) (omega arith) refl refl (k .0)
+    (still-alone (given .row) (head .loop .t) (k .2 .0) (k .2 .1) (c .before .quick-still .ensures)) (c .answer3 .ensures)
 
 enum-told-4 : tie.Need-enum-told-4 Inv-loop μ-loop
 enum-told-4 c = search needs
 
 quick-shift-requires : tie.Need-quick-shift-requires Inv-loop μ-loop
-quick-shift-requires c κs = let k = known-way (c .before .before .before .before .before .before .before .before .before .before .before .args .row) (c .before .before .before .before .before .loop .t) (c .before .before .before .before .before .before .before .before .before .before .before .args .trace .now) (c .before .before .before .before .before .loop .at) (ltb (c .before .before .before .before .before .loop .n) (length (c .before .before .before .before .before .loop .answers))) (c .before .before .sorted .result) Usual.Shift (c .enum-told4 .given .1) (c .before .before .sorted .ensures) in (c .before .before .before .before .before .loop .inv .sound .unsettled .input .few, k .2 .0, k .2 .1, k .2 .2, k .2 .3)
+quick-shift-requires c κs =
+    let at-sorted = c .before .before in
+    let head = at-sorted .before .before .before in
+    let given = head .before .before .before .before .before .before .args in
+    let k = known-way (given .row) (head .loop .t) _ _ _ (c .enum-told4 .given .1) (at-sorted .sorted .ensures) in
+    (head .loop .inv .sound .unsettled .input .few, k .2 .0, k .2 .1, k .2 .2, k .2 .3)
 
 answer-requires-4 : tie.Need-answer-requires-4 Inv-loop μ-loop
 answer-requires-4 c κs = search needs
 
 slice-write-answers-4 : tie.Need-slice-write-answers-4 Inv-loop μ-loop
-slice-write-answers-4 c = let k = known-way (c .before .before .before .before .before .before .before .before .before .before .before .before .before .args .row) (c .before .before .before .before .before .before .before .loop .t) (c .before .before .before .before .before .before .before .before .before .before .before .before .before .args .trace .now) (c .before .before .before .before .before .before .before .loop .at) (ltb (c .before .before .before .before .before .before .before .loop .n) (length (c .before .before .before .before .before .before .before .loop .answers))) (c .before .before .before .before .sorted .result) Usual.Shift (c .before .before .enum-told4 .given .1) (c .before .before .before .before .sorted .ensures) in ltb-true (c .before .before .before .before .before .before .before .loop .n) (length (c .before .before .before .before .before .before .before .loop .answers)) (k .0)
+slice-write-answers-4 c =
+    let at-sorted = c .before .before .before .before in
+    let head = at-sorted .before .before .before in
+    let given = head .before .before .before .before .before .before .args in
+    let k = known-way (given .row) (head .loop .t) _ _ _ (c .before .before .enum-told4 .given .1) (at-sorted .sorted .ensures) in
+    ltb-true _ _ (k .0)
 
 add-at-4 : tie.Need-add-at-4 Inv-loop μ-loop
-add-at-4 c = let k = known-way (c .before .before .before .before .before .before .before .before .before .before .before .before .before .args .row) (c .before .before .before .before .before .before .before .loop .t) (c .before .before .before .before .before .before .before .before .before .before .before .before .before .args .trace .now) (c .before .before .before .before .before .before .before .loop .at) (ltb (c .before .before .before .before .before .before .before .loop .n) (length (c .before .before .before .before .before .before .before .loop .answers))) (c .before .before .before .before .sorted .result) Usual.Shift (c .before .before .enum-told4 .given .1) (c .before .before .before .before .sorted .ensures) in let w = k .1 .whole in omega (arith, w, c .before .before .before .before .before .if1 .left, c .before .before .before .before .before .before .before .before .before .before .before .before .before .good)
+add-at-4 c =
+    let at-sorted = c .before .before .before .before in
+    let at-if1 = at-sorted .before in
+    let head = at-if1 .before .before in
+    let start = head .before .before .before .before .before .before in
+    let given = start .args in
+    let k = known-way (given .row) (head .loop .t) _ _ _ (c .before .before .enum-told4 .given .1) (at-sorted .sorted .ensures) in
+    omega (arith, k .1 .whole, at-if1 .if1 .left, start .good)
 
 add-n-4 : tie.Need-add-n-4 Inv-loop μ-loop
-add-n-4 c = omega (arith, c .before .before .before .before .before .before .loop-test .taken, c .before .before .before .before .before .before .before .before .before .before .before .before .before .fits .limit .fits)
+add-n-4 c =
+    let at-loop-test = c .before .before .before .before .before .before in
+    let start = at-loop-test .before .before .before .before .before .before .before in
+    omega (arith, at-loop-test .loop-test .taken, start .fits .limit .fits)
 
 loop-less-5 : tie.Need-loop-less-5 Inv-loop μ-loop
-loop-less-5 c = omega (arith, c .before .before .before .before .before .before .loop-test .taken)
+loop-less-5 c =
+    let at-loop-test = c .before .before .before .before .before .before in
+    omega (arith, at-loop-test .loop-test .taken)
 
 loop-again-5 : tie.Need-loop-again-5 Inv-loop μ-loop
-loop-again-5 c = let k = known-way (c .before .before .before .before .before .before .before .before .before .before .before .before .before .args .row) (c .before .before .before .before .before .before .before .loop .t) (c .before .before .before .before .before .before .before .before .before .before .before .before .before .args .trace .now) (c .before .before .before .before .before .before .before .loop .at) (ltb (c .before .before .before .before .before .before .before .loop .n) (length (c .before .before .before .before .before .before .before .loop .answers))) (c .before .before .before .before .sorted .result) Usual.Shift (c .before .before .enum-told4 .given .1) (c .before .before .before .before .sorted .ensures) in pin-on (c .before .before .before .before .before .before .before .before .before .before .before .before .before .args .row) (c .before .before .before .before .before .before .before .before .before .before .before .before .before .args .trace .now) (c .before .before .before .before .before .before .before .before .before .before .before .before .before .args .limit) _ _ (worldOf (c .before .before .before .before .before .before .before .loop .t) (c .before .before .before .before .before .before .before .loop .cells) (c .before .before .before .before .before .before .before .loop .identification) (c .before .before .before .before .before .before .before .loop .latch)) (c .before .before .before .before .before .before .before .loop .answers) (c .before .before .before .before .before .before .before .loop .at) (c .before .before .before .before .before .before .before .loop .n) (c .before .before .before .before .before .before .before .loop .inv) (c .before .before .before .before .before .before .before .before .before .before .before .before .before .pre .0) (c .before .before .before .before .before .if1 .left) (c .before .before .before .before .before .before .loop-test .taken) 0 (c .answer4 .result) (Event.Clock false) (worldOf (c .before .quick-shift .result) (c .before .before .before .before .before .before .before .loop .cells) (c .before .before .before .before .before .before .before .loop .identification) (c .before .before .before .before .before .before .before .loop .latch)) (k .1) (omega arith) refl refl (k .0) (shift-alone (c .before .before .before .before .before .before .before .before .before .before .before .before .before .args .row) (c .before .before .before .before .before .before .before .loop .t) (c .before .quick-shift .result) (c .before .before .before .before .before .before .before .loop .cells) (c .before .before .before .before .before .before .before .loop .identification) (c .before .before .before .before .before .before .before .loop .latch) (k .2 .0) (k .2 .1) (k .2 .2) (k .2 .3) (c .before .quick-shift .ensures)) (c .answer4 .ensures)
+loop-again-5 c =
+    let at-sorted = c .before .before .before .before in
+    let at-if1 = at-sorted .before in
+    let at-loop-test = at-if1 .before in
+    let head = at-loop-test .before in
+    let start = head .before .before .before .before .before .before in
+    let given = start .args in
+    let k = known-way (given .row) (head .loop .t) _ _ _ (c .before .before .enum-told4 .given .1) (at-sorted .sorted .ensures) in
+    pin-on (head .loop .inv) (start .pre .0) (at-if1 .if1 .left) (at-loop-test .loop-test .taken) (k .1) (omega arith) refl refl (k .0)
+    (shift-alone (given .row) (head .loop .t) (k .2 .0) (k .2 .1) (k .2 .2) (k .2 .3) (c .before .quick-shift .ensures)) (c .answer4 .ensures)
 
 enum-told-5 : tie.Need-enum-told-5 Inv-loop μ-loop
 enum-told-5 c = search needs
 
 quick-whole-requires : tie.Need-quick-whole-requires Inv-loop μ-loop
-quick-whole-requires c κs = let k = known-way (c .before .before .before .before .before .before .before .before .before .before .before .args .row) (c .before .before .before .before .before .loop .t) (c .before .before .before .before .before .before .before .before .before .before .before .args .trace .now) (c .before .before .before .before .before .loop .at) (ltb (c .before .before .before .before .before .loop .n) (length (c .before .before .before .before .before .loop .answers))) (c .before .before .sorted .result) Usual.Whole (c .enum-told5 .given .1) (c .before .before .sorted .ensures) in (c .before .before .before .before .before .loop .inv .sound .unsettled .input, k .2 .0, k .2 .1, k .2 .2, k .2 .3)
+quick-whole-requires c κs =
+    let at-sorted = c .before .before in
+    let head = at-sorted .before .before .before in
+    let given = head .before .before .before .before .before .before .args in
+    let k = known-way (given .row) (head .loop .t) _ _ _ (c .enum-told5 .given .1) (at-sorted .sorted .ensures) in
+    (head .loop .inv .sound .unsettled .input, k .2 .0, k .2 .1, k .2 .2, k .2 .3)
 
 answer-requires-5 : tie.Need-answer-requires-5 Inv-loop μ-loop
 answer-requires-5 c κs = search needs
 
 slice-write-answers-5 : tie.Need-slice-write-answers-5 Inv-loop μ-loop
-slice-write-answers-5 c = let k = known-way (c .before .before .before .before .before .before .before .before .before .before .before .before .before .args .row) (c .before .before .before .before .before .before .before .loop .t) (c .before .before .before .before .before .before .before .before .before .before .before .before .before .args .trace .now) (c .before .before .before .before .before .before .before .loop .at) (ltb (c .before .before .before .before .before .before .before .loop .n) (length (c .before .before .before .before .before .before .before .loop .answers))) (c .before .before .before .before .sorted .result) Usual.Whole (c .before .before .enum-told5 .given .1) (c .before .before .before .before .sorted .ensures) in ltb-true (c .before .before .before .before .before .before .before .loop .n) (length (c .before .before .before .before .before .before .before .loop .answers)) (k .0)
+slice-write-answers-5 c =
+    let at-sorted = c .before .before .before .before in
+    let head = at-sorted .before .before .before in
+    let given = head .before .before .before .before .before .before .args in
+    let k = known-way (given .row) (head .loop .t) _ _ _ (c .before .before .enum-told5 .given .1) (at-sorted .sorted .ensures) in
+    ltb-true _ _ (k .0)
 
 add-at-5 : tie.Need-add-at-5 Inv-loop μ-loop
-add-at-5 c = let k = known-way (c .before .before .before .before .before .before .before .before .before .before .before .before .before .args .row) (c .before .before .before .before .before .before .before .loop .t) (c .before .before .before .before .before .before .before .before .before .before .before .before .before .args .trace .now) (c .before .before .before .before .before .before .before .loop .at) (ltb (c .before .before .before .before .before .before .before .loop .n) (length (c .before .before .before .before .before .before .before .loop .answers))) (c .before .before .before .before .sorted .result) Usual.Whole (c .before .before .enum-told5 .given .1) (c .before .before .before .before .sorted .ensures) in let w = k .1 .whole in omega (arith, w, c .before .before .before .before .before .if1 .left, c .before .before .before .before .before .before .before .before .before .before .before .before .before .good)
+add-at-5 c =
+    let at-sorted = c .before .before .before .before in
+    let at-if1 = at-sorted .before in
+    let head = at-if1 .before .before in
+    let start = head .before .before .before .before .before .before in
+    let given = start .args in
+    let k = known-way (given .row) (head .loop .t) _ _ _ (c .before .before .enum-told5 .given .1) (at-sorted .sorted .ensures) in
+    omega (arith, k .1 .whole, at-if1 .if1 .left, start .good)
 
 add-n-5 : tie.Need-add-n-5 Inv-loop μ-loop
-add-n-5 c = omega (arith, c .before .before .before .before .before .before .loop-test .taken, c .before .before .before .before .before .before .before .before .before .before .before .before .before .fits .limit .fits)
+add-n-5 c =
+    let at-loop-test = c .before .before .before .before .before .before in
+    let start = at-loop-test .before .before .before .before .before .before .before in
+    omega (arith, at-loop-test .loop-test .taken, start .fits .limit .fits)
 
 loop-less-6 : tie.Need-loop-less-6 Inv-loop μ-loop
-loop-less-6 c = omega (arith, c .before .before .before .before .before .before .loop-test .taken)
+loop-less-6 c =
+    let at-loop-test = c .before .before .before .before .before .before in
+    omega (arith, at-loop-test .loop-test .taken)
 
 loop-again-6 : tie.Need-loop-again-6 Inv-loop μ-loop
-loop-again-6 c = let k = known-way (c .before .before .before .before .before .before .before .before .before .before .before .before .before .args .row) (c .before .before .before .before .before .before .before .loop .t) (c .before .before .before .before .before .before .before .before .before .before .before .before .before .args .trace .now) (c .before .before .before .before .before .before .before .loop .at) (ltb (c .before .before .before .before .before .before .before .loop .n) (length (c .before .before .before .before .before .before .before .loop .answers))) (c .before .before .before .before .sorted .result) Usual.Whole (c .before .before .enum-told5 .given .1) (c .before .before .before .before .sorted .ensures) in pin-on (c .before .before .before .before .before .before .before .before .before .before .before .before .before .args .row) (c .before .before .before .before .before .before .before .before .before .before .before .before .before .args .trace .now) (c .before .before .before .before .before .before .before .before .before .before .before .before .before .args .limit) _ _ (worldOf (c .before .before .before .before .before .before .before .loop .t) (c .before .before .before .before .before .before .before .loop .cells) (c .before .before .before .before .before .before .before .loop .identification) (c .before .before .before .before .before .before .before .loop .latch)) (c .before .before .before .before .before .before .before .loop .answers) (c .before .before .before .before .before .before .before .loop .at) (c .before .before .before .before .before .before .before .loop .n) (c .before .before .before .before .before .before .before .loop .inv) (c .before .before .before .before .before .before .before .before .before .before .before .before .before .pre .0) (c .before .before .before .before .before .if1 .left) (c .before .before .before .before .before .before .loop-test .taken) 1 (c .answer5 .result) (Event.Clock true) (worldOf (c .before .quick-whole .result) (c .before .before .before .before .before .before .before .loop .cells) (c .before .before .before .before .before .before .before .loop .identification) (c .before .before .before .before .before .before .before .loop .latch)) (k .1) (omega arith) refl refl (k .0) (whole-alone (c .before .before .before .before .before .before .before .before .before .before .before .before .before .args .row) (c .before .before .before .before .before .before .before .loop .t) (c .before .quick-whole .result) (c .before .before .before .before .before .before .before .loop .cells) (c .before .before .before .before .before .before .before .loop .identification) (c .before .before .before .before .before .before .before .loop .latch) (k .2 .3) (c .before .quick-whole .ensures)) (c .answer5 .ensures)
+loop-again-6 c =
+    let at-sorted = c .before .before .before .before in
+    let at-if1 = at-sorted .before in
+    let at-loop-test = at-if1 .before in
+    let head = at-loop-test .before in
+    let start = head .before .before .before .before .before .before in
+    let given = start .args in
+    let k = known-way (given .row) (head .loop .t) _ _ _ (c .before .before .enum-told5 .given .1) (at-sorted .sorted .ensures) in
+    pin-on (head .loop .inv) (start .pre .0) (at-if1 .if1 .left) (at-loop-test .loop-test .taken) (k .1) (omega arith) refl refl (k .0)
+    (whole-alone (given .row) (head .loop .t) (k .2 .3) (c .before .quick-whole .ensures)) (c .answer5 .ensures)
 
 same-length-9 : tie.Need-same-length-9 Inv-loop μ-loop
-same-length-9 c = omega (arith, c .before .loop .inv .lent .cells, c .before .before .before .before .before .before .before .pre .2 .cells)
+same-length-9 c =
+    let start = c .before .before .before .before .before .before .before in
+    omega (arith, c .before .loop .inv .lent .cells, start .pre .2 .cells)
 
 same-length-10 : tie.Need-same-length-10 Inv-loop μ-loop
-same-length-10 c = omega (arith, c .before .loop .inv .lent .identification, c .before .before .before .before .before .before .before .pre .2 .identification)
+same-length-10 c =
+    let start = c .before .before .before .before .before .before .before in
+    omega (arith, c .before .loop .inv .lent .identification, start .pre .2 .identification)
 
 same-length-11 : tie.Need-same-length-11 Inv-loop μ-loop
-same-length-11 c = omega (arith, c .before .loop .inv .lent .latch, c .before .before .before .before .before .before .before .pre .2 .latch)
+same-length-11 c =
+    let start = c .before .before .before .before .before .before .before in
+    omega (arith, c .before .loop .inv .lent .latch, start .pre .2 .latch)
 
 same-length-12 : tie.Need-same-length-12 Inv-loop μ-loop
 same-length-12 c = c .before .loop .inv .long
 
 returns-3 : tie.Need-returns-3 Inv-loop μ-loop
-returns-3 c = ends-limit (c .before .before .before .before .before .before .before .args .row) (c .before .before .before .before .before .before .before .args .trace .now) (c .before .before .before .before .before .before .before .args .limit) _ _ (worldOf (c .before .loop .t) (c .before .loop .cells) (c .before .loop .identification) (c .before .loop .latch)) (c .before .loop .answers) (c .before .loop .at) (c .before .loop .n) (c .before .loop .inv) (c .loop-test .left)
+returns-3 c =
+    ends-limit (c .before .loop .inv) (c .loop-test .left)
 
 pub run-records-spec : {M : Type 1} → statement M
 run-records-spec =

@@ -30,16 +30,30 @@ two-at-requires-2 : tie.Need-two-at-requires-2
 two-at-requires-2 c κs = omega (arith, ap lengthOf (c .before .match .keys2), c .before .before .before .pre .1)
 
 four-requires : tie.Need-four-requires
-four-requires c κs = (two-small (c .before .before .before .before .args .trace .now) (c .before .before .before .before .args .at + 4) (c .before .two-at .result) (c .before .two-at .ensures) (λ i. c .before .before .before .shared-slice-known .given i .fits), two-small (c .before .before .before .before .args .trace .now) (c .before .before .before .before .args .at + 6) (c .two-at2 .result) (c .two-at2 .ensures) (λ i. c .before .before .before .shared-slice-known .given i .fits))
+four-requires c κs =
+    let at-shared-slice-known = c .before .before .before in
+    let bytes = at-shared-slice-known .shared-slice-known .given in
+    let given = at-shared-slice-known .before .args in
+    (two-small (given .trace .now) (given .at + 4) (c .before .two-at .ensures) (λ i. bytes i .fits), two-small (given .trace .now) (given .at + 6) (c .two-at2 .ensures) (λ i. bytes i .fits))
 
 returns : tie.Need-returns
-returns c = event-pin (c .before .before .before .before .args .trace .now) (c .before .before .before .before .args .at) (c .before .before .before .before .args .kind) (c .before .before .before .before .pre .0) _ (c .before .before .match .keys1) (c .pin-event .ensures)
+returns c =
+    let start = c .before .before .before .before in
+    let given = start .args in
+    event-pin (given .trace .now) (given .at) (start .pre .0) (c .before .before .match .keys1) (c .pin-event .ensures)
 
 returns-2 : tie.Need-returns-2
-returns-2 c = event-wait (c .before .before .before .before .before .args .trace .now) (c .before .before .before .before .before .args .at) (c .before .before .before .before .before .args .kind) (c .before .before .before .before .before .pre .0) _ (c .before .before .two-at .result) (c .before .two-at2 .result) (c .before .before .before .match .keys2) (c .before .before .two-at .ensures) (c .before .two-at2 .ensures) (c .four .ensures)
+returns-2 c =
+    let at-two-at = c .before .before in
+    let start = at-two-at .before .before .before in
+    let given = start .args in
+    event-wait (given .trace .now) (given .at) (start .pre .0) (c .before .before .before .match .keys2) (at-two-at .two-at .ensures) (c .before .two-at2 .ensures) (c .four .ensures)
 
 returns-3 : tie.Need-returns-3
-returns-3 c = event-power (c .before .before .args .trace .now) (c .before .before .args .at) (c .before .before .args .kind) (c .before .before .pre .0) (c .match .rest .0 .1) (c .match .rest .1)
+returns-3 c =
+    let start = c .before .before in
+    let given = start .args in
+    event-power (given .trace .now) (given .at) (start .pre .0) (c .match .rest .0 .1) (c .match .rest .1)
 
 pub event-at-spec : {M : Type 1} → statement M
 event-at-spec =

@@ -14,10 +14,14 @@ shared-slice-read-result : tie.Need-shared-slice-read-result
 shared-slice-read-result c = omega (arith, ap lengthOf (c .before .if1 .taken), c .before .before .pre)
 
 returns : tie.Need-returns
-returns c = pin-first (c .before .before .args .trace .now) (c .before .before .args .at) (c .before .before .args .kind) (c .before .if1 .taken)
+returns c =
+    let given = c .before .before .args in
+    pin-first (given .trace .now) (given .at) (c .before .if1 .taken)
 
 returns-2 : tie.Need-returns-2
-returns-2 c = pin-other (c .before .args .trace .now) (c .before .args .at) (c .before .args .kind) (c .if1 .left)
+returns-2 c =
+    let given = c .before .args in
+    pin-other (given .trace .now) (given .at) (c .if1 .left)
 
 pub is-bad-pin-spec : {M : Type 1} → statement M
 is-bad-pin-spec = tie.close (tie.spec add-result shared-slice-read-result returns returns-2)

@@ -1,12 +1,12 @@
 -- `traces::trace::one` meets its contract. The place behind the record and the count are handed to `omega`, so that their values count and not their spelling.
 use Rattle.rules.specs.World.{worldOf}
 use Rattle.rules.specs.Trace.{lengthOf}
-use borrow.Author.Tests.{leb-false}
 use lib.ListN.{length}
-use lib.Dec.{leb}
+use borrow.Author.Tests.{leb-false}
 use native.Mathlib.Omega.{arith}
 use mathlib.Core.Path.{ap, sym, _∙_}
-use Rattle.rules.proofs.Runs.{ready, turn-refused}
+use Rattle.rules.proofs.Runs.{turn-refused}
+use Rattle.traces.proofs.Reading.{taken}
 use Rattle.traces.proofs.Running.{turn-ends}
 use borrow.Author.Needs.{needs}
 use Rattle.traces.proofs.trace.one.Statement.{statement}
@@ -16,28 +16,60 @@ refused-requires : tie.Need-refused-requires
 refused-requires c κs = search needs
 
 returns : tie.Need-returns
-returns c = turn-refused (c .before .before .before .before .before .before .before .args .row) (c .before .before .before .before .before .before .before .args .trace .now) (c .before .before .before .before .before .before .before .args .at) (c .before .before .before .before .before .before .before .args .n) (worldOf (c .before .before .before .before .before .before .before .args .s) (c .before .before .before .before .before .before .before .args .cells .now) (c .before .before .before .before .before .before .before .args .identification .now) (c .before .before .before .before .before .before .before .args .latch .now)) (c .before .before .before .before .before .before .before .args .answers .now) (c .before .before .before .before .before .before .before .pre .3) (c .before .refused .result) (c .before .refused .ensures) (c .if1 .taken)
+returns c =
+    let start = c .before .before .before .before .before .before .before in
+    let given = start .args in
+    turn-refused (given .row) (given .trace .now) (given .n) _ (given .answers .now) (start .pre .3)
+    (c .before .refused .ensures _ (worldOf (given .s) (given .cells .now) (given .identification .now) (given .latch .now))) (c .if1 .taken)
 
 two-at-requires : tie.Need-two-at-requires
-two-at-requires c κs = omega (arith, (ready (c .before .before .before .before .before .before .before .args .trace .now) (c .before .before .before .before .before .before .before .args .at) (leb (length (c .before .before .before .before .before .before .before .args .answers .now)) (c .before .before .before .before .before .before .before .args .n)) (c .before .before .before .before .before .before .before .args .s) (sym (c .before .refused .ensures) ∙ c .if1 .left)) .head, c .before .before .before .before .before .before .before .pre .3)
+two-at-requires c κs =
+    let start = c .before .before .before .before .before .before .before in
+    let given = start .args in
+    let done = taken (given .row) (given .trace .now) (given .at) (given .answers .now) (given .n) (given .s) (c .before .refused .ensures) (c .if1 .left) in
+    omega (arith, done .head, start .pre .3)
 
 add-two-at : tie.Need-add-two-at
 add-two-at c = search needs
 
 two-at-requires-2 : tie.Need-two-at-requires-2
-two-at-requires-2 c κs = omega (arith, (ready (c .before .before .before .before .before .before .before .before .args .trace .now) (c .before .before .before .before .before .before .before .before .args .at) (leb (length (c .before .before .before .before .before .before .before .before .args .answers .now)) (c .before .before .before .before .before .before .before .before .args .n)) (c .before .before .before .before .before .before .before .before .args .s) (sym (c .before .before .refused .ensures) ∙ c .before .if1 .left)) .head, c .before .before .before .before .before .before .before .before .pre .3)
+two-at-requires-2 c κs =
+    let start = c .before .before .before .before .before .before .before .before in
+    let given = start .args in
+    let done = taken (given .row) (given .trace .now) (given .at) (given .answers .now) (given .n) (given .s) (c .before .before .refused .ensures) (c .before .if1 .left) in
+    omega (arith, done .head, start .pre .3)
 
 event-at-requires : tie.Need-event-at-requires
-event-at-requires c κs = let y = ready (c .before .before .before .before .before .before .before .before .before .args .trace .now) (c .before .before .before .before .before .before .before .before .before .args .at) (leb (length (c .before .before .before .before .before .before .before .before .before .args .answers .now)) (c .before .before .before .before .before .before .before .before .before .args .n)) (c .before .before .before .before .before .before .before .before .before .args .s) (sym (c .before .before .before .refused .ensures) ∙ c .before .before .if1 .left) in (c .two-at2 .ensures, omega (arith, y .body, y .size, c .before .before .before .before .before .before .before .before .before .pre .3, ap lengthOf (c .two-at2 .ensures)))
+event-at-requires c κs =
+    let start = c .before .before .before .before .before .before .before .before .before in
+    let given = start .args in
+    let done = taken (given .row) (given .trace .now) (given .at) (given .answers .now) (given .n) (given .s) (c .before .before .before .refused .ensures) (c .before .before .if1 .left) in
+    (c .two-at2 .ensures, omega (arith, done .body, done .size, start .pre .3, ap lengthOf (c .two-at2 .ensures)))
 
 add-next : tie.Need-add-next
-add-next c = let y = ready (c .before .before .before .before .before .before .before .before .before .before .args .trace .now) (c .before .before .before .before .before .before .before .before .before .before .args .at) (leb (length (c .before .before .before .before .before .before .before .before .before .before .args .answers .now)) (c .before .before .before .before .before .before .before .before .before .before .args .n)) (c .before .before .before .before .before .before .before .before .before .before .args .s) (sym (c .before .before .before .before .refused .ensures) ∙ c .before .before .before .if1 .left) in omega (arith, y .body, c .before .before .two-at .ensures, c .before .before .before .before .before .before .before .before .before .before .pre .3)
+add-next c =
+    let at-refused = c .before .before .before .before in
+    let start = at-refused .before .before .before .before .before .before in
+    let given = start .args in
+    let done = taken (given .row) (given .trace .now) (given .at) (given .answers .now) (given .n) (given .s) (at-refused .refused .ensures) (c .before .before .before .if1 .left) in
+    omega (arith, done .body, c .before .before .two-at .ensures, start .pre .3, start .good)
 
 add-next-2 : tie.Need-add-next-2
-add-next-2 c = let y = ready (c .before .before .before .before .before .before .before .before .before .before .args .trace .now) (c .before .before .before .before .before .before .before .before .before .before .args .at) (leb (length (c .before .before .before .before .before .before .before .before .before .before .args .answers .now)) (c .before .before .before .before .before .before .before .before .before .before .args .n)) (c .before .before .before .before .before .before .before .before .before .before .args .s) (sym (c .before .before .before .before .refused .ensures) ∙ c .before .before .before .if1 .left) in omega (arith, y .body, c .before .before .two-at .ensures, c .before .before .before .before .before .before .before .before .before .before .pre .3)
+add-next-2 c =
+    let at-refused = c .before .before .before .before in
+    let start = at-refused .before .before .before .before .before .before in
+    let given = start .args in
+    let done = taken (given .row) (given .trace .now) (given .at) (given .answers .now) (given .n) (given .s) (at-refused .refused .ensures) (c .before .before .before .if1 .left) in
+    omega (arith, done .body, c .before .before .two-at .ensures, start .pre .3, start .good)
 
 add-done : tie.Need-add-done
-add-done c = let y = ready (c .before .before .before .before .before .before .before .before .before .before .args .trace .now) (c .before .before .before .before .before .before .before .before .before .before .args .at) (leb (length (c .before .before .before .before .before .before .before .before .before .before .args .answers .now)) (c .before .before .before .before .before .before .before .before .before .before .args .n)) (c .before .before .before .before .before .before .before .before .before .before .args .s) (sym (c .before .before .before .before .refused .ensures) ∙ c .before .before .before .if1 .left) in let z = leb-false (length (c .before .before .before .before .before .before .before .before .before .before .args .answers .now)) (c .before .before .before .before .before .before .before .before .before .before .args .n) (y .room) in omega (arith, z, c .before .before .before .before .before .before .before .before .before .before .good)
+add-done c =
+    let at-refused = c .before .before .before .before in
+    let start = at-refused .before .before .before .before .before .before in
+    let given = start .args in
+    let done = taken (given .row) (given .trace .now) (given .at) (given .answers .now) (given .n) (given .s) (at-refused .refused .ensures) (c .before .before .before .if1 .left) in
+    let room = leb-false (length (given .answers .now)) (given .n) (done .room) in
+    omega (arith, room, start .good)
 
 step-requires : tie.Need-step-requires
 step-requires c κs = search needs
@@ -46,7 +78,13 @@ answer-requires : tie.Need-answer-requires
 answer-requires c κs = search needs
 
 slice-write-answers : tie.Need-slice-write-answers
-slice-write-answers c = let y = ready (c .before .before .before .before .before .before .before .before .before .before .before .before .before .before .before .before .before .before .before .before .before .args .trace .now) (c .before .before .before .before .before .before .before .before .before .before .before .before .before .before .before .before .before .before .before .before .before .args .at) (leb (length (c .before .before .before .before .before .before .before .before .before .before .before .before .before .before .before .before .before .before .before .before .before .args .answers .now)) (c .before .before .before .before .before .before .before .before .before .before .before .before .before .before .before .before .before .before .before .before .before .args .n)) (c .before .before .before .before .before .before .before .before .before .before .before .before .before .before .before .before .before .before .before .before .before .args .s) (sym (c .before .before .before .before .before .before .before .before .before .before .before .before .before .before .before .refused .ensures) ∙ c .before .before .before .before .before .before .before .before .before .before .before .before .before .before .if1 .left) in leb-false (length (c .before .before .before .before .before .before .before .before .before .before .before .before .before .before .before .before .before .before .before .before .before .args .answers .now)) (c .before .before .before .before .before .before .before .before .before .before .before .before .before .before .before .before .before .before .before .before .before .args .n) (y .room)
+slice-write-answers c =
+    let at-if1 = c .before .before .before .before .before .before .before .before .before .before .before .before .before .before in
+    let at-refused = at-if1 .before in
+    let start = at-refused .before .before .before .before .before .before in
+    let given = start .args in
+    let done = taken (given .row) (given .trace .now) (given .at) (given .answers .now) (given .n) (given .s) (at-refused .refused .ensures) (at-if1 .if1 .left) in
+    leb-false (length (given .answers .now)) (given .n) (done .room)
 
 same-length : tie.Need-same-length
 same-length c = search needs
@@ -61,7 +99,18 @@ same-length-4 : tie.Need-same-length-4
 same-length-4 c = search needs
 
 returns-2 : tie.Need-returns-2
-returns-2 c = turn-ends (c .before .before .before .before .before .before .before .before .before .before .before .before .before .before .before .before .before .before .before .before .before .args .row) (c .before .before .before .before .before .before .before .before .before .before .before .before .before .before .before .before .before .before .before .before .before .args .trace .now) (c .before .before .before .before .before .before .before .before .before .before .before .before .before .before .before .before .before .before .before .before .before .args .at) (c .before .before .before .before .before .before .before .before .before .before .before .before .before .before .before .before .before .before .before .before .before .args .n) (worldOf (c .before .before .before .before .before .before .before .before .before .before .before .before .before .before .before .before .before .before .before .before .before .args .s) (c .before .before .before .before .before .before .before .before .before .before .before .before .before .before .before .before .before .before .before .before .before .args .cells .now) (c .before .before .before .before .before .before .before .before .before .before .before .before .before .before .before .before .before .before .before .before .before .args .identification .now) (c .before .before .before .before .before .before .before .before .before .before .before .before .before .before .before .before .before .before .before .before .before .args .latch .now)) (c .before .before .before .before .before .before .before .before .before .before .before .before .before .before .before .before .before .before .before .before .before .args .answers .now) (c .before .before .before .before .before .before .before .before .before .before .before .before .before .before .before .before .before .before .before .before .before .pre .3) (c .before .before .before .before .before .before .before .before .before .before .before .before .before .two-at .result) (c .answer .result) (c .before .before .before .before .before .before .before .before .before .before .before .event-at .result) _ (sym (c .before .before .before .before .before .before .before .before .before .before .before .before .before .before .before .refused .ensures) ∙ c .before .before .before .before .before .before .before .before .before .before .before .before .before .before .if1 .left) (c .before .before .before .before .before .before .before .before .before .before .before .before .before .two-at .ensures) (c .before .before .before .before .before .before .before .before .before .before .before .event-at .ensures) (c .before .before .before .before .before .before .before .step .ensures) (c .answer .ensures) (omega arith) (omega arith)
+returns-2 c =
+    let at-step = c .before .before .before .before .before .before .before in
+    let at-event-at = at-step .before .before .before .before in
+    let at-two-at = at-event-at .before .before in
+    let at-if1 = at-two-at .before in
+    let at-refused = at-if1 .before in
+    let start = at-refused .before .before .before .before .before .before in
+    let given = start .args in
+    let before = worldOf (given .s) (given .cells .now) (given .identification .now) (given .latch .now) in
+    turn-ends (given .row) (given .trace .now) (given .n) _ (given .answers .now) (start .pre .3)
+    (sym (at-refused .refused .ensures _ before) ∙ at-if1 .if1 .left) (at-two-at .two-at .ensures) (at-event-at .event-at .ensures)
+    (at-step .step .ensures) (c .answer .ensures) (omega arith) (omega arith)
 
 pub one-spec : {M : Type 1} → statement M
 one-spec =

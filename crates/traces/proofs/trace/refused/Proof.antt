@@ -10,7 +10,7 @@ sub-left : tie.Need-sub-left
 sub-left c = search needs
 
 returns : tie.Need-returns
-returns c = refused-head (c .before .before .args .trace .now) (c .before .before .args .at) (c .before .before .args .full) (c .before .before .args .s) (c .if1 .taken)
+returns c = λ row w. refused-head _ _ _ _ _ (c .if1 .taken)
 
 two-at-requires : tie.Need-two-at-requires
 two-at-requires c κs = search needs
@@ -25,34 +25,80 @@ length-of-requires : tie.Need-length-of-requires
 length-of-requires c κs = search needs
 
 returns-2 : tie.Need-returns-2
-returns-2 c = refused-kind (c .before .before .before .before .before .before .args .trace .now) (c .before .before .before .before .before .before .args .at) (c .before .before .before .before .before .before .args .full) (c .before .before .before .before .before .before .args .s) (c .before .before .before .two-at .result) (c .before .before .two-at2 .result) (c .before .length-of .result) (c .before .before .before .two-at .ensures) (c .before .before .two-at2 .ensures) (c .before .length-of .ensures) (c .before .before .before .before .if1 .left) (c .if2 .taken)
+returns-2 c =
+    let at-kind = c .before .before in
+    let at-size = at-kind .before in
+    λ row w. refused-kind _ _ _ _ _ (at-size .two-at .ensures) (at-kind .two-at2 .ensures) (c .before .length-of .ensures) (at-size .before .if1 .left) (c .if2 .taken)
 
 returns-3 : tie.Need-returns-3
-returns-3 c = refused-length (c .before .before .before .before .before .before .before .args .trace .now) (c .before .before .before .before .before .before .before .args .at) (c .before .before .before .before .before .before .before .args .full) (c .before .before .before .before .before .before .before .args .s) (c .before .before .before .before .two-at .result) (c .before .before .before .two-at2 .result) (c .before .before .length-of .result) (c .before .before .before .before .two-at .ensures) (c .before .before .before .two-at2 .ensures) (c .before .before .length-of .ensures) (c .before .before .before .before .before .if1 .left) (c .before .if2 .left) (c .if3 .taken)
+returns-3 c =
+    let at-right = c .before .before in
+    let at-kind = at-right .before in
+    let at-size = at-kind .before in
+    λ row w.
+    refused-length _ _ _ _ _ (at-size .two-at .ensures) (at-kind .two-at2 .ensures) (at-right .length-of .ensures) (at-size .before .if1 .left) (c .before .if2 .left) (c .if3 .taken)
 
 add-if4 : tie.Need-add-if4
 add-if4 c = omega (arith, length-small (c .before .before .before .two-at2 .result), c .before .before .length-of .ensures)
 
 returns-4 : tie.Need-returns-4
-returns-4 c = refused-body (c .before .before .before .before .before .before .before .before .args .trace .now) (c .before .before .before .before .before .before .before .before .args .at) (c .before .before .before .before .before .before .before .before .args .full) (c .before .before .before .before .before .before .before .before .args .s) (c .before .before .before .before .before .two-at .result) (c .before .before .before .before .two-at2 .result) (c .before .before .before .length-of .result) (c .before .before .before .before .before .two-at .ensures) (c .before .before .before .before .two-at2 .ensures) (c .before .before .before .length-of .ensures) (c .before .before .before .before .before .before .if1 .left) (c .before .before .if2 .left) (c .before .if3 .left) (c .if4 .taken)
+returns-4 c =
+    let at-right = c .before .before .before in
+    let at-kind = at-right .before in
+    let at-size = at-kind .before in
+    λ row w.
+    refused-body _ _ _ _ _ (at-size .two-at .ensures) (at-kind .two-at2 .ensures) (at-right .length-of .ensures) (at-size .before .if1 .left) (c .before .before .if2 .left)
+    (c .before .if3 .left) (c .if4 .taken)
 
 is-bad-pin-requires : tie.Need-is-bad-pin-requires
-is-bad-pin-requires c κs = omega (arith, c .before .before .before .length-of .ensures, c .if4 .left, c .before .before .before .before .before .before .before .before .pre)
+is-bad-pin-requires c κs =
+    let start = c .before .before .before .before .before .before .before .before in
+    omega (arith, c .before .before .before .length-of .ensures, c .if4 .left, start .pre)
 
 returns-5 : tie.Need-returns-5
-returns-5 c = refused-pin (c .before .before .before .before .before .before .before .before .before .before .args .trace .now) (c .before .before .before .before .before .before .before .before .before .before .args .at) (c .before .before .before .before .before .before .before .before .before .before .args .full) (c .before .before .before .before .before .before .before .before .before .before .args .s) (c .before .before .before .before .before .before .before .two-at .result) (c .before .before .before .before .before .before .two-at2 .result) (c .before .before .before .before .before .length-of .result) (c .before .before .before .before .before .before .before .two-at .ensures) (c .before .before .before .before .before .before .two-at2 .ensures) (c .before .before .before .before .before .length-of .ensures) (c .before .before .before .before .before .before .before .before .if1 .left) (c .before .before .before .before .if2 .left) (c .before .before .before .if3 .left) (c .before .before .if4 .left) (c .before .is-bad-pin .result) (c .before .is-bad-pin .ensures) (c .if5 .taken)
+returns-5 c =
+    let at-known = c .before .before .before .before in
+    let at-right = at-known .before in
+    let at-kind = at-right .before in
+    let at-size = at-kind .before in
+    λ row w.
+    refused-pin _ _ _ _ _ (at-size .two-at .ensures) (at-kind .two-at2 .ensures) (at-right .length-of .ensures) (at-size .before .if1 .left) (at-known .if2 .left)
+    (c .before .before .before .if3 .left) (c .before .before .if4 .left) (c .before .is-bad-pin .ensures) (c .if5 .taken)
 
 returns-6 : tie.Need-returns-6
-returns-6 c = refused-full (c .before .before .before .before .before .before .before .before .before .before .before .args .trace .now) (c .before .before .before .before .before .before .before .before .before .before .before .args .at) (c .before .before .before .before .before .before .before .before .before .before .before .args .full) (c .before .before .before .before .before .before .before .before .before .before .before .args .s) (c .before .before .before .before .before .before .before .before .two-at .result) (c .before .before .before .before .before .before .before .two-at2 .result) (c .before .before .before .before .before .before .length-of .result) (c .before .before .before .before .before .before .before .before .two-at .ensures) (c .before .before .before .before .before .before .before .two-at2 .ensures) (c .before .before .before .before .before .before .length-of .ensures) (c .before .before .before .before .before .before .before .before .before .if1 .left) (c .before .before .before .before .before .if2 .left) (c .before .before .before .before .if3 .left) (c .before .before .before .if4 .left) (c .before .before .is-bad-pin .result) (c .before .before .is-bad-pin .ensures) (c .before .if5 .left) (c .if6 .taken)
+returns-6 c =
+    let at-bad-pin = c .before .before in
+    let at-whole = at-bad-pin .before in
+    let at-known = at-whole .before .before in
+    let at-right = at-known .before in
+    let at-kind = at-right .before in
+    let at-size = at-kind .before in
+    λ row w.
+    refused-full _ _ _ _ _ (at-size .two-at .ensures) (at-kind .two-at2 .ensures) (at-right .length-of .ensures) (at-size .before .if1 .left) (at-known .if2 .left)
+    (at-whole .before .if3 .left) (at-whole .if4 .left) (at-bad-pin .is-bad-pin .ensures) (c .before .if5 .left) (c .if6 .taken)
 
 event-at-requires : tie.Need-event-at-requires
-event-at-requires c κs = (c .before .before .before .before .before .before .before .two-at2 .ensures, omega (arith, c .before .before .before .before .before .before .length-of .ensures, c .before .before .before .if4 .left, c .before .before .before .before .before .before .before .before .before .before .before .pre))
+event-at-requires c κs =
+    let at-length-of = c .before .before .before .before .before .before in
+    let at-two-at2 = at-length-of .before in
+    let start = at-two-at2 .before .before .before .before in
+    (at-two-at2 .two-at2 .ensures, omega (arith, at-length-of .length-of .ensures, c .before .before .before .if4 .left, start .pre))
 
 refused-requires : tie.Need-refused-requires
 refused-requires c κs = search needs
 
 returns-7 : tie.Need-returns-7
-returns-7 c = refused-event (c .before .before .before .before .before .before .before .before .before .before .before .before .before .args .trace .now) (c .before .before .before .before .before .before .before .before .before .before .before .before .before .args .at) (c .before .before .before .before .before .before .before .before .before .before .before .before .before .args .full) (c .before .before .before .before .before .before .before .before .before .before .before .before .before .args .s) (c .before .before .before .before .before .before .before .before .before .before .two-at .result) (c .before .before .before .before .before .before .before .before .before .two-at2 .result) (c .before .before .before .before .before .before .before .before .length-of .result) (c .before .before .before .before .before .before .before .before .before .before .two-at .ensures) (c .before .before .before .before .before .before .before .before .before .two-at2 .ensures) (c .before .before .before .before .before .before .before .before .length-of .ensures) (c .before .before .before .before .before .before .before .before .before .before .before .if1 .left) (c .before .before .before .before .before .before .before .if2 .left) (c .before .before .before .before .before .before .if3 .left) (c .before .before .before .before .before .if4 .left) (c .before .before .before .before .is-bad-pin .result) (c .before .before .before .before .is-bad-pin .ensures) _ (c .before .event-at .result) (c .before .before .before .if5 .left) (c .before .before .if6 .left) (c .before .event-at .ensures) (c .refused .ensures)
+returns-7 c =
+    let at-bad-pin = c .before .before .before .before in
+    let at-whole = at-bad-pin .before in
+    let at-known = at-whole .before .before in
+    let at-right = at-known .before in
+    let at-kind = at-right .before in
+    let at-size = at-kind .before in
+    λ row w.
+    refused-event _ _ _ _ _ (at-size .two-at .ensures) (at-kind .two-at2 .ensures) (at-right .length-of .ensures) (at-size .before .if1 .left) (at-known .if2 .left)
+    (at-whole .before .if3 .left) (at-whole .if4 .left) (at-bad-pin .is-bad-pin .ensures) (c .before .before .before .if5 .left) (c .before .before .if6 .left)
+    (c .before .event-at .ensures) (c .refused .ensures row w)
 
 pub refused-spec : {M : Type 1} → statement M
 refused-spec =

@@ -1,6 +1,7 @@
 -- `write::cycle::wait` meets its contract.
 use native.Mathlib.Omega.{arith}
-use Rattle.write.proofs.Passing.{wait-cells, wait-page, wait-none, page-room}
+use Rattle.rules.proofs.Widths.{page-room}
+use Rattle.write.proofs.Passing.{wait-cells, wait-page, wait-none}
 use borrow.Author.Needs.{needs}
 use Rattle.write.proofs.cycle.wait.Statement.{statement}
 use Rattle.write.proofs.cycle.wait.Tie as tie
@@ -12,25 +13,45 @@ state-after-requires : tie.Need-state-after-requires
 state-after-requires c κs = search needs
 
 write-marked-requires : tie.Need-write-marked-requires
-write-marked-requires c κs = (c .before .before .before .before .before .before .before .before .before .before .before .pre .2 .latch, omega (arith, page-room (c .before .before .before .before .before .before .before .before .before .before .before .pre .0) (c .before .before .before .before .before .before .before .before .before .before .before .args .s .place .start) (c .before .before .before .before .before .before .before .before .before .before .before .pre .1 .aligned) (c .before .before .before .before .before .before .before .before .before .before .before .pre .1 .inside), c .before .before .before .before .before .before .before .before .before .before .before .pre .2 .cells))
+write-marked-requires c κs =
+    let start = c .before .before .before .before .before .before .before .before .before .before .before in
+    let cycle = start .pre .0 .1 in
+    (start .pre .1 .2, omega (arith, page-room (start .pre .0 .0) (start .args .s .place .start) (cycle .aligned) (cycle .inside), start .pre .1 .0))
 
 same-length : tie.Need-same-length
 same-length c = search needs
 
 returns : tie.Need-returns
-returns c = wait-cells (c .before .before .before .before .before .before .before .before .before .before .before .before .before .before .args .row) (c .before .before .before .before .before .before .before .before .before .before .before .before .before .before .args .s) (c .before .before .before .before .before .before .state-after .result) (c .before .before .before .before .before .before .before .before .before .before .before .before .before .before .args .wait) _ _ _ (c .before .before .before .before .before .before .before .before .before .changes .result) (c .before .before .before .before .before .before .before .before .before .changes .ensures) (c .before .before .before .before .before .before .state-after .ensures) _ (c .before .before .before .before .if1 .taken) (c .before .before .write-marked .ensures)
+returns c =
+    let at-if1 = c .before .before .before .before in
+    let at-state-after = at-if1 .before .before in
+    let at-changes = at-state-after .before .before .before in
+    let start = at-changes .before .before .before .before .before in
+    wait-cells (start .args .row) (start .args .s) (at-state-after .state-after .result) (start .args .wait) _ _ _ (at-changes .changes .result) (at-changes .changes .ensures) (at-state-after .state-after .ensures) _ (at-if1 .if1 .taken) (c .before .before .write-marked .ensures)
 
 write-marked-requires-2 : tie.Need-write-marked-requires-2
-write-marked-requires-2 c κs = (c .before .before .before .before .before .before .before .before .before .before .before .before .before .pre .2 .latch, omega (arith, c .before .before .before .before .before .before .before .before .before .before .before .before .before .pre .2 .identification))
+write-marked-requires-2 c κs =
+    let start = c .before .before .before .before .before .before .before .before .before .before .before .before .before in
+    (start .pre .1 .2, omega (arith, start .pre .1 .1))
 
 same-length-2 : tie.Need-same-length-2
 same-length-2 c = search needs
 
 returns-2 : tie.Need-returns-2
-returns-2 c = wait-page (c .before .before .before .before .before .before .before .before .before .before .before .before .before .before .before .before .args .row) (c .before .before .before .before .before .before .before .before .before .before .before .before .before .before .before .before .args .s) (c .before .before .before .before .before .before .before .before .state-after .result) (c .before .before .before .before .before .before .before .before .before .before .before .before .before .before .before .before .args .wait) _ _ _ (c .before .before .before .before .before .before .before .before .before .before .before .changes .result) (c .before .before .before .before .before .before .before .before .before .before .before .changes .ensures) (c .before .before .before .before .before .before .before .before .state-after .ensures) _ (c .before .before .before .before .before .before .if1 .left) (c .before .before .before .before .if2 .taken) (c .before .before .write-marked2 .ensures)
+returns-2 c =
+    let at-if2 = c .before .before .before .before in
+    let at-if1 = at-if2 .before .before in
+    let at-state-after = at-if1 .before .before in
+    let at-changes = at-state-after .before .before .before in
+    let start = at-changes .before .before .before .before .before in
+    wait-page (start .args .row) (start .args .s) (at-state-after .state-after .result) (start .args .wait) _ _ _ (at-changes .changes .result) (at-changes .changes .ensures) (at-state-after .state-after .ensures) _ (at-if1 .if1 .left) (at-if2 .if2 .taken) (c .before .before .write-marked2 .ensures)
 
 returns-3 : tie.Need-returns-3
-returns-3 c = wait-none (c .before .before .before .before .before .before .before .before .before .before .before .before .args .row) (c .before .before .before .before .before .before .before .before .before .before .before .before .args .s) (c .before .before .before .before .state-after .result) (c .before .before .before .before .before .before .before .before .before .before .before .before .args .wait) _ _ _ (c .before .before .before .before .before .before .before .changes .result) (c .before .before .before .before .before .before .before .changes .ensures) (c .before .before .before .before .state-after .ensures) (c .before .before .if1 .left) (c .if2 .left)
+returns-3 c =
+    let at-state-after = c .before .before .before .before in
+    let at-changes = at-state-after .before .before .before in
+    let start = at-changes .before .before .before .before .before in
+    wait-none (start .args .row) (start .args .s) (at-state-after .state-after .result) (start .args .wait) _ _ _ (at-changes .changes .result) (at-changes .changes .ensures) (at-state-after .state-after .ensures) (c .before .before .if1 .left) (c .if2 .left)
 
 pub wait-spec : {M : Type 1} → statement M
 wait-spec =
