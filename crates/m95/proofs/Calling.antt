@@ -1,36 +1,27 @@
--- The outcome of each call, one law for each way through the rules.
-use Prim.Native.Nat.{ℕ, _+_, _-_, _*_, _%_, _^_, _≤_, _<_}
+-- The outcome of each call that asks for a whole world, one law for each way through the rules.
+use Prim.Native.Nat.{ℕ, _≤_, _<_}
 use mathlib.Core.Path.{_≡_, refl, sym, ap, _∙_, subst}
-use mathlib.Core.Bool.{Bool, true, false, not, _&&_}
-use mathlib.Core.List.{List, [], _++_}
-use native.Mathlib.Nat.{mod-le, add-sub-cancel-left}
+use mathlib.Core.Bool.{Bool, true, false, _&&_}
+use mathlib.Core.List.{List}
 use native.Mathlib.Omega.{arith}
-use lib.ListN.{length, take, drop, replicate}
-use lib.Dec.{eqb}
-use lib.Pow.{pow-mono}
+use lib.ListN.{length}
 use mir.Val.{boolByte}
-use borrow.Author.Tests.{eq-eqb, ne-eqb, le-leb, lt-leb, lt-ltb, le-ltb}
+use borrow.Author.Tests.{ne-eqb}
 use Rattle.rules.specs.declared.Row.{Row}
 use Rattle.rules.specs.declared.Event.{Event}
-use Rattle.rules.specs.declared.State.{State}
-use Rattle.rules.specs.declared.Stored.{Stored}
-use Rattle.rules.specs.World.{if_then_else_, bit, number, World, worldOf, withStored}
-use Rattle.rules.specs.Device.{Widths, isDevice, rowOf, code, preparedState, prepared}
+use Rattle.rules.specs.World.{bit, number, World}
+use Rattle.rules.specs.Device.{Widths, rowOf}
 use Rattle.rules.specs.Instruction.{busy}
 use Rattle.rules.specs.Send.{statusByte}
-use Rattle.rules.specs.Judge.{storable}
 use Rattle.rules.specs.Event.{step, answer, refusal}
 use Rattle.rules.specs.Sound.{isSound, Sound, Lent}
 use Rattle.rules.specs.Trace.{answerByte, Progress, progressOf, run}
-use Rattle.rules.specs.Call.{lentRefusal, worldRefusal, preparedAs, prepareOutcome, poweredWith, loadedAs}
-use Rattle.rules.specs.Call.{loadOutcome, repliedAs, eventOutcome, runOutcome, shownAs, cellPageOutcome, identificationPageOutcome}
-use Rattle.rules.proofs.Program.{lent-facts, world-facts}
+use Rattle.rules.specs.Call.{lentRefusal, worldRefusal, repliedAs, eventOutcome, runOutcome}
+use Rattle.rules.proofs.Program.{world-facts}
 use Rattle.rules.proofs.Runs.{Course, course}
-use Rattle.rules.proofs.Widths.{of-device, page-below, start-aligned, page-room}
-
--- The row that was looked up has the widths.
-pub row-widths : (device : ℕ) (row : Row) → row ≡ rowOf device → Widths row
-row-widths device row e = subst Widths (sym e) (of-device device)
+use Rattle.rules.proofs.Widths.{of-device}
+-- What is asked of a device number and of room, for those who stand on `m95`.
+pub use Rattle.lent.proofs.Lending.{row-widths, a-device, lent-room}
 
 -- A flag as a byte.
 pub flag-small : (b : Bool) → boolByte b ≤ 1
@@ -40,33 +31,6 @@ flag-small false = omega arith
 pub flag-number : (b : Bool) → boolByte b ≡ number b
 flag-number true = refl
 flag-number false = refl
-
--- A number from 1 to 4 is a device's.
-pub a-device : (device : ℕ) → 1 ≤ device → device ≤ 4 → isDevice device ≡ true
-a-device device a b = rw (le-leb 1 device a, le-leb device 4 b)
-
--- The lent buffers.
-pub page-at : (device : ℕ) (row : Row) → row ≡ rowOf device → rowOf device .page ≡ row .page
-page-at device row er = ap (λ (x : Row). x .page) (sym er)
-
-pub both-fit : {row : Row} → Widths row → row .page + row .page < 2 ^ 25
-both-fit v = let small : 2 ^ v .cellBits ≤ 2 ^ 24 = pow-mono (v .narrow) in omega (arith, small, v .cells, page-below v)
-
-pub lent-wrong : (device : ℕ) (row : Row) (d : Bool) → row ≡ rowOf device → d ≡ isDevice device → (cells identification latch : List ℕ) (n : ℕ)
-    → n ≡ (if not d then 1 else if not (eqb (length cells) (row .cells)) then 2
-    else if not (eqb (length identification) (row .page)) then 3 else if not (eqb (length latch) (row .page + row .page)) then 4 else 0)
-    → n ≡ lentRefusal device cells identification latch
-unfolding lentRefusal
-lent-wrong device row d er ed cells identification latch n e = e ∙ rw (ed, er)
-
-pub lent-room : (device : ℕ) (row : Row) → row ≡ rowOf device → isDevice device ≡ true → (cells identification latch : List ℕ) → length cells ≡ row .cells → length identification ≡ row .page → length latch ≡ row .page + row .page
-    → lentRefusal device cells identification latch ≡ 0
-unfolding lentRefusal
-lent-room device row e d cells identification latch ec ei el =
-    rw (d, ← e, eq-eqb (length cells) (row .cells) ec, eq-eqb (length identification) (row .page) ei, eq-eqb (length latch) (row .page + row .page) el)
-
-pub lent-fine : (device : ℕ) (s : State) (cells identification latch : List ℕ) → lentRefusal device cells identification latch ≡ 0 → Lent (rowOf device) (worldOf s cells identification latch)
-lent-fine device s cells identification latch e = lent-facts device (worldOf s cells identification latch) e .1
 
 -- The world.
 module _ (device : ℕ) (w : World) (n : ℕ) (en : n ≡ lentRefusal device (w .cells) (w .identification) (w .latch)) where
@@ -94,53 +58,6 @@ pub fine-row : (device : ℕ) (w : World) (row : Row) (n : ℕ) → row ≡ rowO
 fine-row device w row n er en z =
     let f = fine device w (sym en ∙ z) in
     (row-widths device row er, subst (λ (x : Row). Sound x w) (sym er) (f .0), subst (λ (x : Row). Lent x w) (sym er) (f .1))
-
--- Preparing.
-module _ (device : ℕ) (s : State) (cells identification latch : List ℕ) (n : ℕ) (en : n ≡ lentRefusal device cells identification latch) (es : s ≡ preparedState) where
-  pub prepare-refused : (n ≡ 0 → ⊥) → preparedAs n (worldOf s cells identification latch) ≡ prepareOutcome device cells identification latch
-  unfolding prepareOutcome
-  prepare-refused z = rw (← en, ne-eqb n 0 z, es)
-
-  pub prepare-done : (row : Row) (c i l : List ℕ) → n ≡ 0 → row ≡ rowOf device → c ≡ replicate (length cells) 0xFF → i ≡ code row ++ replicate (row .page - length (code row)) 0xFF → l ≡ replicate (length latch) 0
-      → preparedAs 0 (worldOf s c i l) ≡ prepareOutcome device cells identification latch
-  unfolding prepareOutcome prepared
-  prepare-done row c i l z er ec ei el =
-      let k = lent-fine device s cells identification latch (sym en ∙ z) in
-      let twice : length latch ≡ rowOf device .page * 2 = omega (arith, k .latch) in
-      rw (← en, z, es, ec, ei, el, er, k .cells, twice)
-
--- What is handed in to be loaded.
-module _ (device : ℕ) (x : Stored) (row : Row) (d : Bool) (er : row ≡ rowOf device) (ed : d ≡ isDevice device) (b : ℕ) (eb : b ≡ storable row (x .status)) where
-  pub load-device : not d ≡ true → 1 ≡ loadOutcome device x .number
-  unfolding loadOutcome
-  load-device h = rw (← ed, h)
-
-  module _ (h : not d ≡ false) where
-    pub load-bits : (b ≡ x .status → ⊥) → 5 ≡ loadOutcome device x .number
-    unfolding loadOutcome
-    load-bits a = rw (← ed, h, ← er, ← eb, ne-eqb b (x .status) a)
-
-    module _ (a : b ≡ x .status) where
-      pub load-lock : 1 < x .lock → 5 ≡ loadOutcome device x .number
-      unfolding loadOutcome
-      load-lock l = rw (← ed, h, ← er, ← eb, eq-eqb b (x .status) a, lt-ltb 1 (x .lock) l)
-
-      pub load-whole : x .lock ≤ 1 → 0 ≡ loadOutcome device x .number
-      unfolding loadOutcome
-      load-whole l = rw (← ed, h, ← er, ← eb, eq-eqb b (x .status) a, le-ltb 1 (x .lock) l)
-
--- Loading.
-module _ (device : ℕ) (x : Stored) (n : ℕ) (en : n ≡ loadOutcome device x .number) (s : State) (es : s ≡ preparedState) where
-  loads : (m : ℕ) → m ≡ loadOutcome device x .number → loadedAs m (if eqb m 0 then poweredWith x else preparedState) ≡ loadOutcome device x
-  unfolding loadOutcome
-  loads m e = ap (λ (k : ℕ). loadedAs k (if eqb k 0 then poweredWith x else preparedState)) e
-
-  pub load-refused : (n ≡ 0 → ⊥) → loadedAs n s ≡ loadOutcome device x
-  load-refused z = let is = loads n en in rw es (rw (ne-eqb n 0 z) at is)
-
-  pub load-done : n ≡ 0
-      → loadedAs 0 (withStored (record { status = x .status; wel = false; locked = eqb (x .lock) 1 }) (s .cycle) (s .place .start) (s .place .left) s) ≡ loadOutcome device x
-  load-done z = rw es (loads 0 (sym z ∙ en))
 
 -- An event.
 module _ (device : ℕ) (w : World) (e : Event) (n : ℕ) (en : n ≡ worldRefusal device w) where
@@ -184,42 +101,3 @@ status-small row w h = omega (arith, h .unsettled .stored, flag (row .srwd && bi
 
 pub fine-status : (device : ℕ) (w : World) → worldRefusal device w ≡ 0 → statusByte (w .state) < 256
 fine-status device w z = status-small (rowOf device) w (fine device w z .0)
-
--- The pages.
-module _ (device : ℕ) (row : Row) (d : Bool) (er : row ≡ rowOf device) (ed : d ≡ isDevice device) where
-  module _ (cells : List ℕ) (address : ℕ) where
-    pub cell-device : not d ≡ true → shownAs 1 [] ≡ cellPageOutcome device cells address
-    unfolding cellPageOutcome
-    cell-device h = rw (← ed, h)
-
-    module _ (h : not d ≡ false) where
-      pub cell-length : (length cells ≡ row .cells → ⊥) → shownAs 2 [] ≡ cellPageOutcome device cells address
-      unfolding cellPageOutcome
-      cell-length a = rw (← ed, h, ← er, ne-eqb (length cells) (row .cells) a)
-
-      module _ (a : length cells ≡ row .cells) where
-        pub cell-past : row .cells ≤ address → shownAs 13 [] ≡ cellPageOutcome device cells address
-        unfolding cellPageOutcome
-        cell-past b = rw (← ed, h, ← er, eq-eqb (length cells) (row .cells) a, le-leb (row .cells) address b)
-
-        pub cell-shown : (p q : ℕ) → address < row .cells → p ≡ address % row .page → q ≡ address - p + row .page
-            → shownAs 0 (take (q - (address - p)) (drop (address - p) cells)) ≡ cellPageOutcome device cells address
-        unfolding cellPageOutcome
-        cell-shown p q b ep eq = rw (← ed, h, ← er, eq-eqb (length cells) (row .cells) a, lt-leb (row .cells) address b, eq, add-sub-cancel-left (address - p) (row .page), ep)
-
-  module _ (identification : List ℕ) where
-    pub page-device : not d ≡ true → shownAs 1 [] ≡ identificationPageOutcome device identification
-    unfolding identificationPageOutcome
-    page-device h = rw (← ed, h)
-
-    pub page-length : not d ≡ false → (length identification ≡ row .page → ⊥) → shownAs 3 [] ≡ identificationPageOutcome device identification
-    unfolding identificationPageOutcome
-    page-length h a = rw (← ed, h, ← er, ne-eqb (length identification) (row .page) a)
-
-    pub page-shown : not d ≡ false → length identification ≡ row .page → shownAs 0 identification ≡ identificationPageOutcome device identification
-    unfolding identificationPageOutcome
-    page-shown h a = rw (← ed, h, ← er, eq-eqb (length identification) (row .page) a)
-
--- The page of an address lies within the cells.
-pub page-inside : {row : Row} → Widths row → (a p : ℕ) → p ≡ a % row .page → a < row .cells → a - p + row .page ≤ row .cells
-page-inside {row} v a p e h = rw e (page-room v (a - a % row .page) (start-aligned row a) (omega (arith, h, mod-le a (row .page))))

@@ -1,0 +1,26 @@
+-- `lent::judging::lent_refused` meets its contract.
+use native.Mathlib.Omega.{arith}
+use Rattle.lent.proofs.Lending.{row-widths, both-fit, lent-wrong}
+use borrow.Author.Needs.{needs}
+use Rattle.lent.proofs.judging.lent_refused.Statement.{statement}
+use Rattle.lent.proofs.judging.lent_refused.Tie as tie
+
+row-of-requires : tie.Need-row-of-requires
+row-of-requires c κs = search needs
+
+is-device-requires : tie.Need-is-device-requires
+is-device-requires c κs = search needs
+
+add-first-wrong : tie.Need-add-first-wrong
+add-first-wrong c = omega (arith, both-fit (row-widths (c .before .before .before .before .before .before .args .device) (c .before .before .row-of .result) (c .before .before .row-of .ensures)))
+
+first-wrong-requires : tie.Need-first-wrong-requires
+first-wrong-requires c κs = search needs
+
+returns : tie.Need-returns
+returns c = lent-wrong (c .before .before .before .before .before .before .before .args .device) (c .before .before .before .row-of .result) (c .before .before .is-device .result) (c .before .before .before .row-of .ensures) (c .before .before .is-device .ensures) (c .before .before .before .before .before .before .before .args .cells .now) (c .before .before .before .before .before .before .before .args .identification .now) (c .before .before .before .before .before .before .before .args .latch .now) (c .first-wrong .result) (c .first-wrong .ensures)
+
+pub lent-refused-spec : {M : Type 1} → statement M
+lent-refused-spec =
+    tie.close
+    (tie.spec row-of-requires is-device-requires add-first-wrong first-wrong-requires returns)

@@ -1,0 +1,67 @@
+-- `lent::preparing::prepare` meets its contract.
+use mathlib.Core.Path.{sym, _∙_}
+use Rattle.lent.proofs.Lending.{prepare-refused, prepare-done, row-widths, lent-fine, page-at}
+use borrow.Author.Needs.{needs}
+use Rattle.lent.proofs.preparing.prepare.Statement.{statement}
+use Rattle.lent.proofs.preparing.prepare.Tie as tie
+
+lent-refused-requires : tie.Need-lent-refused-requires
+lent-refused-requires c κs = search needs
+
+prepared-state-requires : tie.Need-prepared-state-requires
+prepared-state-requires c κs = search needs
+
+same-length : tie.Need-same-length
+same-length c = search needs
+
+same-length-2 : tie.Need-same-length-2
+same-length-2 c = search needs
+
+same-length-3 : tie.Need-same-length-3
+same-length-3 c = search needs
+
+returns : tie.Need-returns
+returns c = prepare-refused (c .before .before .before .before .before .before .before .before .before .args .device) (c .before .prepared-state .result) (c .before .before .before .before .before .before .before .before .before .args .cells .now) (c .before .before .before .before .before .before .before .before .before .args .identification .now) (c .before .before .before .before .before .before .before .before .before .args .latch .now) (c .before .before .lent-refused .result) (c .before .before .lent-refused .ensures) (c .before .prepared-state .ensures) (c .if1 .taken)
+
+row-of-requires : tie.Need-row-of-requires
+row-of-requires c κs = search needs
+
+fill-requires : tie.Need-fill-requires
+fill-requires c κs = search needs
+
+prepare-identification-requires : tie.Need-prepare-identification-requires
+prepare-identification-requires c κs = (row-widths (c .before .before .before .before .before .before .before .before .before .before .before .before .before .before .before .args .device) (c .before .before .before .before .before .row-of .result) (c .before .before .before .before .before .row-of .ensures), lent-fine (c .before .before .before .before .before .before .before .before .before .before .before .before .before .before .before .args .device) (c .before .before .before .before .before .before .before .prepared-state .result) (c .before .before .before .before .before .before .before .before .before .before .before .before .before .before .before .args .cells .now) (c .before .before .before .before .before .before .before .before .before .before .before .before .before .before .before .args .identification .now) (c .before .before .before .before .before .before .before .before .before .before .before .before .before .before .before .args .latch .now) (sym (c .before .before .before .before .before .before .before .before .lent-refused .ensures) ∙ c .before .before .before .before .before .before .if1 .left) .identification ∙ page-at (c .before .before .before .before .before .before .before .before .before .before .before .before .before .before .before .args .device) (c .before .before .before .before .before .row-of .result) (c .before .before .before .before .before .row-of .ensures))
+
+fill-requires-2 : tie.Need-fill-requires-2
+fill-requires-2 c κs = search needs
+
+same-length-4 : tie.Need-same-length-4
+same-length-4 c = search needs
+
+same-length-5 : tie.Need-same-length-5
+same-length-5 c = search needs
+
+same-length-6 : tie.Need-same-length-6
+same-length-6 c = search needs
+
+returns-2 : tie.Need-returns-2
+returns-2 c = prepare-done (c .before .before .before .before .before .before .before .before .before .before .before .before .before .before .before .before .before .before .before .before .before .before .args .device) (c .before .before .before .before .before .before .before .before .before .before .before .before .before .before .prepared-state .result) (c .before .before .before .before .before .before .before .before .before .before .before .before .before .before .before .before .before .before .before .before .before .before .args .cells .now) (c .before .before .before .before .before .before .before .before .before .before .before .before .before .before .before .before .before .before .before .before .before .before .args .identification .now) (c .before .before .before .before .before .before .before .before .before .before .before .before .before .before .before .before .before .before .before .before .before .before .args .latch .now) (c .before .before .before .before .before .before .before .before .before .before .before .before .before .before .before .lent-refused .result) (c .before .before .before .before .before .before .before .before .before .before .before .before .before .before .before .lent-refused .ensures) (c .before .before .before .before .before .before .before .before .before .before .before .before .before .before .prepared-state .ensures) (c .before .before .before .before .before .before .before .before .before .before .before .before .row-of .result) _ _ _ (c .before .before .before .before .before .before .before .before .before .before .before .before .before .if1 .left) (c .before .before .before .before .before .before .before .before .before .before .before .before .row-of .ensures) (c .before .before .before .before .before .before .before .before .before .before .fill .ensures) (c .before .before .before .before .before .before .prepare-identification .ensures) (c .before .before .fill2 .ensures)
+
+pub prepare-spec : {M : Type 1} → statement M
+prepare-spec =
+    tie.close
+    (tie.spec
+    lent-refused-requires
+    prepared-state-requires
+    same-length
+    same-length-2
+    same-length-3
+    returns
+    row-of-requires
+    fill-requires
+    prepare-identification-requires
+    fill-requires-2
+    same-length-4
+    same-length-5
+    same-length-6
+    returns-2)

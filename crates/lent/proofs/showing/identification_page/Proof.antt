@@ -1,0 +1,55 @@
+-- `lent::showing::identification_page` meets its contract. The test of the length is handed to `omega`, so that its meaning counts and not its spelling.
+use native.Mathlib.Omega.{arith}
+use Rattle.lent.proofs.Lending.{page-device, page-length, page-shown}
+use borrow.Author.Needs.{needs}
+use Rattle.lent.proofs.showing.identification_page.Statement.{statement}
+use Rattle.lent.proofs.showing.identification_page.Tie as tie
+
+row-of-requires : tie.Need-row-of-requires
+row-of-requires c κs = search needs
+
+is-device-requires : tie.Need-is-device-requires
+is-device-requires c κs = search needs
+
+sub-result : tie.Need-sub-result
+sub-result c = search needs
+
+part-result-start : tie.Need-part-result-start
+part-result-start c = search needs
+
+part-result-end : tie.Need-part-result-end
+part-result-end c = search needs
+
+returns : tie.Need-returns
+returns c = page-device (c .before .before .before .before .before .args .device) (c .before .before .before .row-of .result) (c .before .before .is-device .result) (c .before .before .before .row-of .ensures) (c .before .before .is-device .ensures) (c .before .before .before .before .before .args .identification .now) (c .before .if1 .taken)
+
+sub-result-2 : tie.Need-sub-result-2
+sub-result-2 c = search needs
+
+part-result-start-2 : tie.Need-part-result-start-2
+part-result-start-2 c = search needs
+
+part-result-end-2 : tie.Need-part-result-end-2
+part-result-end-2 c = search needs
+
+returns-2 : tie.Need-returns-2
+returns-2 c = page-length (c .before .before .before .before .before .before .before .args .device) (c .before .before .before .before .before .row-of .result) (c .before .before .before .before .is-device .result) (c .before .before .before .before .before .row-of .ensures) (c .before .before .before .before .is-device .ensures) (c .before .before .before .before .before .before .before .args .identification .now) (c .before .before .before .if1 .left) (omega (arith, c .before .if2 .taken))
+
+returns-3 : tie.Need-returns-3
+returns-3 c = page-shown (c .before .before .before .before .before .before .args .device) (c .before .before .before .before .row-of .result) (c .before .before .before .is-device .result) (c .before .before .before .before .row-of .ensures) (c .before .before .before .is-device .ensures) (c .before .before .before .before .before .before .args .identification .now) (c .before .before .if1 .left) (omega (arith, c .if2 .left))
+
+pub identification-page-spec : {M : Type 1} → statement M
+identification-page-spec =
+    tie.close
+    (tie.spec
+    row-of-requires
+    is-device-requires
+    sub-result
+    part-result-start
+    part-result-end
+    returns
+    sub-result-2
+    part-result-start-2
+    part-result-end-2
+    returns-2
+    returns-3)
