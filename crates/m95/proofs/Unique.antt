@@ -15,7 +15,8 @@ use Rattle.rules.specs.Call.{worldRefusal, Prepared, prepareOutcome, storedIn, 
 pub unique : {A : Type 0} {x y z : A} → x ≡ z → y ≡ z → x ≡ y
 unique e f = e ∙ sym f
 
-pub unique-prepare : {x y : Prepared} (device : ℕ) (cells identification latch : List ℕ) → x ≡ prepareOutcome device cells identification latch → y ≡ prepareOutcome device cells identification latch → x ≡ y
+pub unique-prepare : {x y : Prepared} (device : ℕ) (cells identification latch : List ℕ) → x ≡ prepareOutcome device cells identification latch
+    → y ≡ prepareOutcome device cells identification latch → x ≡ y
 unique-prepare device cells identification latch = unique
 
 pub unique-load : {x y : Loaded} (device : ℕ) (stored : Stored) → x ≡ loadOutcome device stored → y ≡ loadOutcome device stored → x ≡ y
@@ -27,13 +28,15 @@ unique-stored s e f = unique e f
 pub unique-event : {x y : Replied} (device : ℕ) (w : World) (e : Event) → x ≡ eventOutcome device w e → y ≡ eventOutcome device w e → x ≡ y
 unique-event device w e = unique
 
-pub unique-run : {x y : Progress} (device : ℕ) (w : World) (trace answers : List ℕ) (limit : ℕ) → x ≡ runOutcome device w trace answers limit → y ≡ runOutcome device w trace answers limit → x ≡ y
+pub unique-run : {x y : Progress} (device : ℕ) (w : World) (trace answers : List ℕ) (limit : ℕ) → x ≡ runOutcome device w trace answers limit
+    → y ≡ runOutcome device w trace answers limit → x ≡ y
 unique-run device w trace answers limit = unique
 
 pub unique-cell-page : {x y : Shown} (device : ℕ) (cells : List ℕ) (address : ℕ) → x ≡ cellPageOutcome device cells address → y ≡ cellPageOutcome device cells address → x ≡ y
 unique-cell-page device cells address = unique
 
-pub unique-identification-page : {x y : Shown} (device : ℕ) (identification : List ℕ) → x ≡ identificationPageOutcome device identification → y ≡ identificationPageOutcome device identification → x ≡ y
+pub unique-identification-page : {x y : Shown} (device : ℕ) (identification : List ℕ) → x ≡ identificationPageOutcome device identification
+    → y ≡ identificationPageOutcome device identification → x ≡ y
 unique-identification-page device identification = unique
 
 pub unique-status-byte : {x y : ℕ} (s : State) → x ≡ statusByte s → y ≡ statusByte s → x ≡ y

@@ -18,13 +18,22 @@ same-length-3 : tie.Need-same-length-3
 same-length-3 c = search needs
 
 returns : tie.Need-returns
-returns c = run-refused (c .before .before .before .before .before .before .before .before .before .before .args .device) (worldOf (c .before .before .before .before .before .before .before .before .before .before .args .s) (c .before .before .before .before .before .before .before .before .before .before .args .cells .now) (c .before .before .before .before .before .before .before .before .before .before .args .identification .now) (c .before .before .before .before .before .before .before .before .before .before .args .latch .now)) (c .before .before .before .before .before .before .before .before .before .before .args .trace .now) (c .before .before .before .before .before .before .before .before .before .before .args .answers .now) (c .before .before .before .before .before .before .before .before .before .before .args .limit) (c .before .world-refused .result) (c .before .world-refused .ensures) (c .if1 .taken)
+returns c =
+    let start = c .before .before .before .before .before .before .before .before .before .before .args in
+    let lent = worldOf (start .s) (start .cells .now) (start .identification .now) (start .latch .now) in
+    let judged = c .before .world-refused in
+    run-refused (start .device) lent (start .trace .now) (start .answers .now) (start .limit) (judged .result) (judged .ensures) (c .if1 .taken)
 
 row-of-requires : tie.Need-row-of-requires
 row-of-requires c κs = search needs
 
 run-records-requires : tie.Need-run-records-requires
-run-records-requires c κs = fine-row (c .before .before .before .before .before .before .before .before .before .before .before .before .before .before .before .args .device) (worldOf (c .before .before .before .before .before .before .before .before .before .before .before .before .before .before .before .args .s) (c .before .before .before .before .before .before .before .before .before .before .before .before .before .before .before .args .cells .now) (c .before .before .before .before .before .before .before .before .before .before .before .before .before .before .before .args .identification .now) (c .before .before .before .before .before .before .before .before .before .before .before .before .before .before .before .args .latch .now)) (c .before .before .before .before .row-of .result) (c .before .before .before .before .before .before .world-refused .result) (c .before .before .before .before .row-of .ensures) (c .before .before .before .before .before .before .world-refused .ensures) (c .before .before .before .before .before .if1 .left)
+run-records-requires c κs =
+    let start = c .before .before .before .before .before .before .before .before .before .before .before .before .before .before .before .args in
+    let lent = worldOf (start .s) (start .cells .now) (start .identification .now) (start .latch .now) in
+    let judged = c .before .before .before .before .before .before .world-refused in
+    let row = c .before .before .before .before .row-of in
+    fine-row (start .device) lent (row .result) (judged .result) (row .ensures) (judged .ensures) (c .before .before .before .before .before .if1 .left)
 
 same-length-4 : tie.Need-same-length-4
 same-length-4 c = search needs
@@ -39,7 +48,15 @@ same-length-7 : tie.Need-same-length-7
 same-length-7 c = search needs
 
 returns-2 : tie.Need-returns-2
-returns-2 c = run-done (c .before .before .before .before .before .before .before .before .before .before .before .before .before .before .before .before .before .before .before .before .before .before .before .before .args .device) (worldOf (c .before .before .before .before .before .before .before .before .before .before .before .before .before .before .before .before .before .before .before .before .before .before .before .before .args .s) (c .before .before .before .before .before .before .before .before .before .before .before .before .before .before .before .before .before .before .before .before .before .before .before .before .args .cells .now) (c .before .before .before .before .before .before .before .before .before .before .before .before .before .before .before .before .before .before .before .before .before .before .before .before .args .identification .now) (c .before .before .before .before .before .before .before .before .before .before .before .before .before .before .before .before .before .before .before .before .before .before .before .before .args .latch .now)) (c .before .before .before .before .before .before .before .before .before .before .before .before .before .before .before .before .before .before .before .before .before .before .before .before .args .trace .now) (c .before .before .before .before .before .before .before .before .before .before .before .before .before .before .before .before .before .before .before .before .before .before .before .before .args .answers .now) (c .before .before .before .before .before .before .before .before .before .before .before .before .before .before .before .before .before .before .before .before .before .before .before .before .args .limit) (c .before .before .before .before .before .before .before .before .before .before .before .before .before .before .before .world-refused .result) (c .before .before .before .before .before .before .before .before .before .before .before .before .before .before .before .world-refused .ensures) (c .before .before .before .before .before .before .before .before .before .before .before .before .before .row-of .result) _ (c .before .before .before .before .before .before .before .before .before .before .before .before .before .before .if1 .left) (c .before .before .before .before .before .before .before .before .before .before .before .before .before .row-of .ensures) (c .before .before .before .before .before .before .before .before .run-records .ensures)
+returns-2 c =
+    let ran = c .before .before .before .before .before .before .before .before in
+    let start = ran .before .before .before .before .before .before .before .before .before .before .before .before .before .before .before .before .args in
+    let lent = worldOf (start .s) (start .cells .now) (start .identification .now) (start .latch .now) in
+    let judged = ran .before .before .before .before .before .before .before .world-refused in
+    let good = ran .before .before .before .before .before .before .if1 .left in
+    let row = ran .before .before .before .before .before .row-of in
+    run-done (start .device) lent (start .trace .now) (start .answers .now) (start .limit) (judged .result) (judged .ensures) (row .result) _ good
+    (row .ensures) (ran .run-records .ensures)
 
 pub run-spec : {M : Type 1} → statement M
 run-spec =

@@ -14,19 +14,41 @@ lent-refused-requires : tie.Need-lent-refused-requires
 lent-refused-requires c κs = search needs
 
 returns : tie.Need-returns
-returns c = world-lent (c .before .before .before .before .before .args .device) (worldOf (c .before .before .before .before .before .args .s) (c .before .before .before .before .before .args .cells .now) (c .before .before .before .before .before .args .identification .now) (c .before .before .before .before .before .args .latch .now)) (c .before .lent-refused .result) (c .before .lent-refused .ensures) (c .if1 .taken)
+returns c =
+    let start = c .before .before .before .before .before .args in
+    let judged = c .before .lent-refused in
+    world-lent (start .device) (worldOf (start .s) (start .cells .now) (start .identification .now) (start .latch .now)) (judged .result)
+    (judged .ensures) (c .if1 .taken)
 
 row-of-requires : tie.Need-row-of-requires
 row-of-requires c κs = search needs
 
 is-sound-requires : tie.Need-is-sound-requires
-is-sound-requires c κs = (row-widths (c .before .before .before .before .before .before .args .device) (c .row-of .result) (c .row-of .ensures), subst (λ (x : Row). length (c .before .before .before .before .before .before .args .latch .now) ≡ x .page + x .page) (sym (c .row-of .ensures)) (lent-fine (c .before .before .before .before .before .before .args .device) (c .before .before .before .before .before .before .args .s) (c .before .before .before .before .before .before .args .cells .now) (c .before .before .before .before .before .before .args .identification .now) (c .before .before .before .before .before .before .args .latch .now) (sym (c .before .before .lent-refused .ensures) ∙ c .before .if1 .left) .latch))
+is-sound-requires c κs =
+    let start = c .before .before .before .before .before .before .args in
+    let row = c .row-of in
+    let good = sym (c .before .before .lent-refused .ensures) ∙ c .before .if1 .left in
+    let whole = lent-fine (start .device) (start .s) (start .cells .now) (start .identification .now) (start .latch .now) good in
+    let twice = subst (λ (x : Row). length (start .latch .now) ≡ x .page + x .page) (sym (row .ensures)) (whole .latch) in
+    (row-widths (start .device) (row .result) (row .ensures), twice)
 
 returns-2 : tie.Need-returns-2
-returns-2 c = world-good (c .before .before .before .before .before .before .before .before .args .device) (worldOf (c .before .before .before .before .before .before .before .before .args .s) (c .before .before .before .before .before .before .before .before .args .cells .now) (c .before .before .before .before .before .before .before .before .args .identification .now) (c .before .before .before .before .before .before .before .before .args .latch .now)) (c .before .before .before .before .lent-refused .result) (c .before .before .before .before .lent-refused .ensures) (c .before .before .before .if1 .left) (c .before .before .row-of .result) (c .before .before .row-of .ensures) (c .before .is-sound .result) (c .before .is-sound .ensures) (c .if2 .taken)
+returns-2 c =
+    let start = c .before .before .before .before .before .before .before .before .args in
+    let judged = c .before .before .before .before .lent-refused in
+    let row = c .before .before .row-of in
+    let sound = c .before .is-sound in
+    world-good (start .device) (worldOf (start .s) (start .cells .now) (start .identification .now) (start .latch .now)) (judged .result)
+    (judged .ensures) (c .before .before .before .if1 .left) (row .result) (row .ensures) (sound .result) (sound .ensures) (c .if2 .taken)
 
 returns-3 : tie.Need-returns-3
-returns-3 c = world-unsound (c .before .before .before .before .before .before .before .before .args .device) (worldOf (c .before .before .before .before .before .before .before .before .args .s) (c .before .before .before .before .before .before .before .before .args .cells .now) (c .before .before .before .before .before .before .before .before .args .identification .now) (c .before .before .before .before .before .before .before .before .args .latch .now)) (c .before .before .before .before .lent-refused .result) (c .before .before .before .before .lent-refused .ensures) (c .before .before .before .if1 .left) (c .before .before .row-of .result) (c .before .before .row-of .ensures) (c .before .is-sound .result) (c .before .is-sound .ensures) (c .if2 .left)
+returns-3 c =
+    let start = c .before .before .before .before .before .before .before .before .args in
+    let judged = c .before .before .before .before .lent-refused in
+    let row = c .before .before .row-of in
+    let sound = c .before .is-sound in
+    world-unsound (start .device) (worldOf (start .s) (start .cells .now) (start .identification .now) (start .latch .now)) (judged .result)
+    (judged .ensures) (c .before .before .before .if1 .left) (row .result) (row .ensures) (sound .result) (sound .ensures) (c .if2 .left)
 
 pub world-refused-spec : {M : Type 1} → statement M
 world-refused-spec =

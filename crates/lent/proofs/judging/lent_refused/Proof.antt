@@ -12,13 +12,21 @@ is-device-requires : tie.Need-is-device-requires
 is-device-requires c κs = search needs
 
 add-first-wrong : tie.Need-add-first-wrong
-add-first-wrong c = omega (arith, both-fit (row-widths (c .before .before .before .before .before .before .args .device) (c .before .before .row-of .result) (c .before .before .row-of .ensures)))
+add-first-wrong c =
+    let start = c .before .before .before .before .before .before .args in
+    let row = c .before .before .row-of in
+    omega (arith, both-fit (row-widths (start .device) (row .result) (row .ensures)))
 
 first-wrong-requires : tie.Need-first-wrong-requires
 first-wrong-requires c κs = search needs
 
 returns : tie.Need-returns
-returns c = lent-wrong (c .before .before .before .before .before .before .before .args .device) (c .before .before .before .row-of .result) (c .before .before .is-device .result) (c .before .before .before .row-of .ensures) (c .before .before .is-device .ensures) (c .before .before .before .before .before .before .before .args .cells .now) (c .before .before .before .before .before .before .before .args .identification .now) (c .before .before .before .before .before .before .before .args .latch .now) (c .first-wrong .result) (c .first-wrong .ensures)
+returns c =
+    let start = c .before .before .before .before .before .before .before .args in
+    let row = c .before .before .before .row-of in
+    let known = c .before .before .is-device in
+    lent-wrong (start .device) (row .result) (known .result) (row .ensures) (known .ensures) (start .cells .now) (start .identification .now)
+    (start .latch .now) (c .first-wrong .result) (c .first-wrong .ensures)
 
 pub lent-refused-spec : {M : Type 1} → statement M
 lent-refused-spec =

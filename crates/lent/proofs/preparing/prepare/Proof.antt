@@ -21,7 +21,12 @@ same-length-3 : tie.Need-same-length-3
 same-length-3 c = search needs
 
 returns : tie.Need-returns
-returns c = prepare-refused (c .before .before .before .before .before .before .before .before .before .args .device) (c .before .prepared-state .result) (c .before .before .before .before .before .before .before .before .before .args .cells .now) (c .before .before .before .before .before .before .before .before .before .args .identification .now) (c .before .before .before .before .before .before .before .before .before .args .latch .now) (c .before .before .lent-refused .result) (c .before .before .lent-refused .ensures) (c .before .prepared-state .ensures) (c .if1 .taken)
+returns c =
+    let start = c .before .before .before .before .before .before .before .before .before .args in
+    let judged = c .before .before .lent-refused in
+    let fresh = c .before .prepared-state in
+    prepare-refused (start .device) (fresh .result) (start .cells .now) (start .identification .now) (start .latch .now) (judged .result)
+    (judged .ensures) (fresh .ensures) (c .if1 .taken)
 
 row-of-requires : tie.Need-row-of-requires
 row-of-requires c κs = search needs
@@ -30,7 +35,14 @@ fill-requires : tie.Need-fill-requires
 fill-requires c κs = search needs
 
 prepare-identification-requires : tie.Need-prepare-identification-requires
-prepare-identification-requires c κs = (row-widths (c .before .before .before .before .before .before .before .before .before .before .before .before .before .before .before .args .device) (c .before .before .before .before .before .row-of .result) (c .before .before .before .before .before .row-of .ensures), lent-fine (c .before .before .before .before .before .before .before .before .before .before .before .before .before .before .before .args .device) (c .before .before .before .before .before .before .before .prepared-state .result) (c .before .before .before .before .before .before .before .before .before .before .before .before .before .before .before .args .cells .now) (c .before .before .before .before .before .before .before .before .before .before .before .before .before .before .before .args .identification .now) (c .before .before .before .before .before .before .before .before .before .before .before .before .before .before .before .args .latch .now) (sym (c .before .before .before .before .before .before .before .before .lent-refused .ensures) ∙ c .before .before .before .before .before .before .if1 .left) .identification ∙ page-at (c .before .before .before .before .before .before .before .before .before .before .before .before .before .before .before .args .device) (c .before .before .before .before .before .row-of .result) (c .before .before .before .before .before .row-of .ensures))
+prepare-identification-requires c κs =
+    let start = c .before .before .before .before .before .before .before .before .before .before .before .before .before .before .before .args in
+    let judged = c .before .before .before .before .before .before .before .before .lent-refused in
+    let fresh = c .before .before .before .before .before .before .before .prepared-state in
+    let good = c .before .before .before .before .before .before .if1 .left in
+    let row = c .before .before .before .before .before .row-of in
+    let whole = lent-fine (start .device) (fresh .result) (start .cells .now) (start .identification .now) (start .latch .now) (sym (judged .ensures) ∙ good) in
+    (row-widths (start .device) (row .result) (row .ensures), whole .identification ∙ page-at (start .device) (row .result) (row .ensures))
 
 fill-requires-2 : tie.Need-fill-requires-2
 fill-requires-2 c κs = search needs
@@ -45,7 +57,16 @@ same-length-6 : tie.Need-same-length-6
 same-length-6 c = search needs
 
 returns-2 : tie.Need-returns-2
-returns-2 c = prepare-done (c .before .before .before .before .before .before .before .before .before .before .before .before .before .before .before .before .before .before .before .before .before .before .args .device) (c .before .before .before .before .before .before .before .before .before .before .before .before .before .before .prepared-state .result) (c .before .before .before .before .before .before .before .before .before .before .before .before .before .before .before .before .before .before .before .before .before .before .args .cells .now) (c .before .before .before .before .before .before .before .before .before .before .before .before .before .before .before .before .before .before .before .before .before .before .args .identification .now) (c .before .before .before .before .before .before .before .before .before .before .before .before .before .before .before .before .before .before .before .before .before .before .args .latch .now) (c .before .before .before .before .before .before .before .before .before .before .before .before .before .before .before .lent-refused .result) (c .before .before .before .before .before .before .before .before .before .before .before .before .before .before .before .lent-refused .ensures) (c .before .before .before .before .before .before .before .before .before .before .before .before .before .before .prepared-state .ensures) (c .before .before .before .before .before .before .before .before .before .before .before .before .row-of .result) _ _ _ (c .before .before .before .before .before .before .before .before .before .before .before .before .before .if1 .left) (c .before .before .before .before .before .before .before .before .before .before .before .before .row-of .ensures) (c .before .before .before .before .before .before .before .before .before .before .fill .ensures) (c .before .before .before .before .before .before .prepare-identification .ensures) (c .before .before .fill2 .ensures)
+returns-2 c =
+    let filled = c .before .before .before .before .before .before .before .before .before .before in
+    let start = filled .before .before .before .before .before .before .before .before .before .before .before .before .args in
+    let judged = filled .before .before .before .before .before .lent-refused in
+    let fresh = filled .before .before .before .before .prepared-state in
+    let good = filled .before .before .before .if1 .left in
+    let row = filled .before .before .row-of in
+    prepare-done (start .device) (fresh .result) (start .cells .now) (start .identification .now) (start .latch .now) (judged .result)
+    (judged .ensures) (fresh .ensures) (row .result) _ _ _ good (row .ensures) (filled .fill .ensures) (c .before .before .before .before .before .before .prepare-identification .ensures)
+    (c .before .before .fill2 .ensures)
 
 pub prepare-spec : {M : Type 1} → statement M
 prepare-spec =

@@ -22,7 +22,11 @@ part-result-end : tie.Need-part-result-end
 part-result-end c = search needs
 
 returns : tie.Need-returns
-returns c = cell-device (c .before .before .before .before .before .args .device) (c .before .before .before .row-of .result) (c .before .before .is-device .result) (c .before .before .before .row-of .ensures) (c .before .before .is-device .ensures) (c .before .before .before .before .before .args .cells .now) (c .before .before .before .before .before .args .address) (c .before .if1 .taken)
+returns c =
+    let start = c .before .before .before .before .before .args in
+    let row = c .before .before .before .row-of in
+    let known = c .before .before .is-device in
+    cell-device (start .device) (row .result) (known .result) (row .ensures) (known .ensures) (start .cells .now) (start .address) (c .before .if1 .taken)
 
 sub-result-2 : tie.Need-sub-result-2
 sub-result-2 c = search needs
@@ -34,7 +38,12 @@ part-result-end-2 : tie.Need-part-result-end-2
 part-result-end-2 c = search needs
 
 returns-2 : tie.Need-returns-2
-returns-2 c = cell-length (c .before .before .before .before .before .before .before .args .device) (c .before .before .before .before .before .row-of .result) (c .before .before .before .before .is-device .result) (c .before .before .before .before .before .row-of .ensures) (c .before .before .before .before .is-device .ensures) (c .before .before .before .before .before .before .before .args .cells .now) (c .before .before .before .before .before .before .before .args .address) (c .before .before .before .if1 .left) (c .before .if2 .taken)
+returns-2 c =
+    let start = c .before .before .before .before .before .before .before .args in
+    let row = c .before .before .before .before .before .row-of in
+    let known = c .before .before .before .before .is-device in
+    cell-length (start .device) (row .result) (known .result) (row .ensures) (known .ensures) (start .cells .now) (start .address)
+    (c .before .before .before .if1 .left) (c .before .if2 .taken)
 
 sub-result-3 : tie.Need-sub-result-3
 sub-result-3 c = search needs
@@ -46,16 +55,30 @@ part-result-end-3 : tie.Need-part-result-end-3
 part-result-end-3 c = search needs
 
 returns-3 : tie.Need-returns-3
-returns-3 c = cell-past (c .before .before .before .before .before .before .before .before .before .args .device) (c .before .before .before .before .before .before .before .row-of .result) (c .before .before .before .before .before .before .is-device .result) (c .before .before .before .before .before .before .before .row-of .ensures) (c .before .before .before .before .before .before .is-device .ensures) (c .before .before .before .before .before .before .before .before .before .args .cells .now) (c .before .before .before .before .before .before .before .before .before .args .address) (c .before .before .before .before .before .if1 .left) (c .before .before .before .if2 .left) (c .before .if3 .taken)
+returns-3 c =
+    let start = c .before .before .before .before .before .before .before .before .before .args in
+    let row = c .before .before .before .before .before .before .before .row-of in
+    let known = c .before .before .before .before .before .before .is-device in
+    cell-past (start .device) (row .result) (known .result) (row .ensures) (known .ensures) (start .cells .now) (start .address)
+    (c .before .before .before .before .before .if1 .left) (c .before .before .before .if2 .left) (c .before .if3 .taken)
 
 place-requires : tie.Need-place-requires
-place-requires c κs = row-widths (c .before .before .before .before .before .before .before .before .args .device) (c .before .before .before .before .before .before .row-of .result) (c .before .before .before .before .before .before .row-of .ensures)
+place-requires c κs =
+    let row = c .before .before .before .before .before .before .row-of in
+    row-widths (c .before .before .before .before .before .before .before .before .args .device) (row .result) (row .ensures)
 
 sub-start : tie.Need-sub-start
-sub-start c = omega (arith, c .place .ensures, mod-le (c .before .before .before .before .before .before .before .before .before .args .address) (c .before .before .before .before .before .before .before .row-of .result .page))
+sub-start c =
+    let row = c .before .before .before .before .before .before .before .row-of in
+    omega (arith, c .place .ensures, mod-le (c .before .before .before .before .before .before .before .before .before .args .address) (row .result .page))
 
 add-end : tie.Need-add-end
-add-end c = omega (arith, page-inside (row-widths (c .before .before .before .before .before .before .before .before .before .args .device) (c .before .before .before .before .before .before .before .row-of .result) (c .before .before .before .before .before .before .before .row-of .ensures)) (c .before .before .before .before .before .before .before .before .before .args .address) (c .place .result) (c .place .ensures) (c .before .if3 .left), c .before .before .before .if2 .left, c .before .before .before .before .before .before .before .before .before .good)
+add-end c =
+    let start = c .before .before .before .before .before .before .before .before .before in
+    let row = c .before .before .before .before .before .before .before .row-of in
+    let widths = row-widths (start .args .device) (row .result) (row .ensures) in
+    let inside = page-inside widths (start .args .address) (c .place .result) (c .place .ensures) (c .before .if3 .left) in
+    omega (arith, inside, c .before .before .before .if2 .left, start .good)
 
 sub-result-4 : tie.Need-sub-result-4
 sub-result-4 c = search needs
@@ -64,10 +87,21 @@ part-result-start-4 : tie.Need-part-result-start-4
 part-result-start-4 c = search needs
 
 part-result-end-4 : tie.Need-part-result-end-4
-part-result-end-4 c = omega (arith, page-inside (row-widths (c .before .before .before .before .before .before .before .before .before .args .device) (c .before .before .before .before .before .before .before .row-of .result) (c .before .before .before .before .before .before .before .row-of .ensures)) (c .before .before .before .before .before .before .before .before .before .args .address) (c .place .result) (c .place .ensures) (c .before .if3 .left), c .before .before .before .if2 .left)
+part-result-end-4 c =
+    let start = c .before .before .before .before .before .before .before .before .before in
+    let row = c .before .before .before .before .before .before .before .row-of in
+    let widths = row-widths (start .args .device) (row .result) (row .ensures) in
+    let inside = page-inside widths (start .args .address) (c .place .result) (c .place .ensures) (c .before .if3 .left) in
+    omega (arith, inside, c .before .before .before .if2 .left)
 
 returns-4 : tie.Need-returns-4
-returns-4 c = cell-shown (c .before .before .before .before .before .before .before .before .before .before .args .device) (c .before .before .before .before .before .before .before .before .row-of .result) (c .before .before .before .before .before .before .before .is-device .result) (c .before .before .before .before .before .before .before .before .row-of .ensures) (c .before .before .before .before .before .before .before .is-device .ensures) (c .before .before .before .before .before .before .before .before .before .before .args .cells .now) (c .before .before .before .before .before .before .before .before .before .before .args .address) (c .before .before .before .before .before .before .if1 .left) (c .before .before .before .before .if2 .left) (c .before .place .result) _ (c .before .before .if3 .left) (c .before .place .ensures) (omega arith)
+returns-4 c =
+    let start = c .before .before .before .before .before .before .before .before .before .before .args in
+    let row = c .before .before .before .before .before .before .before .before .row-of in
+    let known = c .before .before .before .before .before .before .before .is-device in
+    let place = c .before .place in
+    cell-shown (start .device) (row .result) (known .result) (row .ensures) (known .ensures) (start .cells .now) (start .address) (c .before .before .before .before .before .before .if1 .left)
+    (c .before .before .before .before .if2 .left) (place .result) _ (c .before .before .if3 .left) (place .ensures) (omega arith)
 
 pub cell-page-spec : {M : Type 1} → statement M
 cell-page-spec =

@@ -21,7 +21,11 @@ part-result-end : tie.Need-part-result-end
 part-result-end c = search needs
 
 returns : tie.Need-returns
-returns c = page-device (c .before .before .before .before .before .args .device) (c .before .before .before .row-of .result) (c .before .before .is-device .result) (c .before .before .before .row-of .ensures) (c .before .before .is-device .ensures) (c .before .before .before .before .before .args .identification .now) (c .before .if1 .taken)
+returns c =
+    let start = c .before .before .before .before .before .args in
+    let row = c .before .before .before .row-of in
+    let known = c .before .before .is-device in
+    page-device (start .device) (row .result) (known .result) (row .ensures) (known .ensures) (start .identification .now) (c .before .if1 .taken)
 
 sub-result-2 : tie.Need-sub-result-2
 sub-result-2 c = search needs
@@ -33,10 +37,20 @@ part-result-end-2 : tie.Need-part-result-end-2
 part-result-end-2 c = search needs
 
 returns-2 : tie.Need-returns-2
-returns-2 c = page-length (c .before .before .before .before .before .before .before .args .device) (c .before .before .before .before .before .row-of .result) (c .before .before .before .before .is-device .result) (c .before .before .before .before .before .row-of .ensures) (c .before .before .before .before .is-device .ensures) (c .before .before .before .before .before .before .before .args .identification .now) (c .before .before .before .if1 .left) (omega (arith, c .before .if2 .taken))
+returns-2 c =
+    let start = c .before .before .before .before .before .before .before .args in
+    let row = c .before .before .before .before .before .row-of in
+    let known = c .before .before .before .before .is-device in
+    page-length (start .device) (row .result) (known .result) (row .ensures) (known .ensures) (start .identification .now) (c .before .before .before .if1 .left)
+    (omega (arith, c .before .if2 .taken))
 
 returns-3 : tie.Need-returns-3
-returns-3 c = page-shown (c .before .before .before .before .before .before .args .device) (c .before .before .before .before .row-of .result) (c .before .before .before .is-device .result) (c .before .before .before .before .row-of .ensures) (c .before .before .before .is-device .ensures) (c .before .before .before .before .before .before .args .identification .now) (c .before .before .if1 .left) (omega (arith, c .if2 .left))
+returns-3 c =
+    let start = c .before .before .before .before .before .before .args in
+    let row = c .before .before .before .before .row-of in
+    let known = c .before .before .before .is-device in
+    page-shown (start .device) (row .result) (known .result) (row .ensures) (known .ensures) (start .identification .now) (c .before .before .if1 .left)
+    (omega (arith, c .if2 .left))
 
 pub identification-page-spec : {M : Type 1} → statement M
 identification-page-spec =
