@@ -7,7 +7,6 @@ use native.Mathlib.Nat.{mod-le, add-sub-cancel-left}
 use native.Mathlib.Omega.{arith}
 use lib.ListN.{length, take, drop, replicate}
 use lib.Dec.{eqb}
-use lib.Pow.{pow-mono}
 use borrow.Author.Tests.{eq-eqb, ne-eqb, le-leb, lt-leb, lt-ltb, le-ltb}
 use Rattle.rules.specs.declared.Row.{Row}
 use Rattle.rules.specs.declared.State.{State}
@@ -18,7 +17,7 @@ use Rattle.rules.specs.Judge.{storable}
 use Rattle.rules.specs.Sound.{Lent}
 use Rattle.rules.specs.Call.{lentRefusal, preparedAs, prepareOutcome, poweredWith, loadedAs, loadOutcome, shownAs, cellPageOutcome, identificationPageOutcome}
 use Rattle.rules.proofs.Program.{lent-facts}
-use Rattle.rules.proofs.Widths.{of-device, page-below, start-aligned, page-room}
+use Rattle.rules.proofs.Widths.{of-device, start-aligned, page-room}
 
 -- The row that was looked up has the widths.
 pub row-widths : (device : ℕ) (row : Row) → row ≡ rowOf device → Widths row
@@ -33,7 +32,7 @@ pub page-at : (device : ℕ) (row : Row) → row ≡ rowOf device → rowOf devi
 page-at device row er = ap (λ (x : Row). x .page) (sym er)
 
 pub both-fit : {row : Row} → Widths row → row .page + row .page < 2 ^ 25
-both-fit v = let small : 2 ^ v .cellBits ≤ 2 ^ 24 = pow-mono (v .narrow) in omega (arith, small, v .cells, page-below v)
+both-fit v = omega (arith, v .pageMost)
 
 pub lent-wrong : (device : ℕ) (row : Row) (d : Bool) → row ≡ rowOf device → d ≡ isDevice device → (cells identification latch : List ℕ) (n : ℕ)
     → n ≡ (if not d then 1 else if not (eqb (length cells) (row .cells)) then 2

@@ -1,26 +1,23 @@
 -- A chip's file, one law for each way through the rule; the bytes that are kept; and what holds from piece to piece.
-use Prim.Native.Nat.{ℕ, zero, suc, _+_, _-_, _*_, _/_, _%_, _^_, _≤_, _<_}
+use Prim.Native.Nat.{ℕ, zero, suc, _+_, _-_, _^_, _≤_, _<_}
 use mathlib.Core.Path.{_≡_, refl, sym, ap, _∙_, subst}
-use mathlib.Core.Bool.{Bool, true, false, not, _&&_}
+use mathlib.Core.Bool.{Bool, true, false, not}
 use mathlib.Core.List.{List, [], _∷_, _++_}
 use native.Mathlib.Numerals.{add-one}
 use native.Mathlib.Omega.{arith}
 use lib.ListN.{length, getD, set, take, drop, length-drop, length-append}
 use lib.Seq.{length-take-le, getD-append-add, getD-drop, drop-cons, take-suc, set-at, take-at, append-snoc}
-use lib.Dec.{eqb, ltb, lit≤}
-use lib.Pow.{pow-mono}
+use lib.Dec.{lit≤}
 use borrow.Rule.Slice.PartMut.{postOf, putMid}
-use borrow.Author.Tests.{eq-eqb, ne-eqb, lt-ltb, le-ltb, eqb-true, not-false}
+use borrow.Author.Tests.{eq-eqb, ne-eqb}
 use Rattle.rules.specs.declared.Row.{Row}
 use Rattle.rules.specs.declared.Stored.{Stored}
-use Rattle.rules.specs.World.{bit, number, World}
+use Rattle.rules.specs.World.{World}
 use Rattle.rules.specs.Device.{Widths, m95040, table, isDevice, rowOf}
 use Rattle.rules.specs.Trace.{Progress}
 use Rattle.rules.specs.Call.{lentRefusal, worldRefusal, storedAs, runOutcome}
-use Rattle.rules.proofs.Choice.{if-elim}
 use Rattle.rules.proofs.Program.{world-taken}
 use Rattle.rules.proofs.Runs.{Course}
-use Rattle.rules.proofs.Widths.{page-below}
 use Rattle.m95.proofs.Calling.{run-course}
 use Rattle.player.specs.declared.contents.Fault.{Fault}
 use Rattle.player.specs.declared.contents.Said.{Said}
@@ -28,7 +25,7 @@ use Rattle.player.specs.File.{saidAs, said}
 
 -- The length of a chip's file fits.
 pub file-fits : {row : Row} → Widths row → row .cells + row .page + 2 < 2 ^ 26
-file-fits {row} v = let small : 2 ^ v .cellBits ≤ 2 ^ 24 = pow-mono (v .narrow) in omega (arith, small, v .cells, page-below v)
+file-fits v = omega (arith, v .cellsMost, v .pageMost)
 
 -- A chip's file.
 module _ (row : Row) (n : ℕ) (x : Stored) where

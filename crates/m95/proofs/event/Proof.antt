@@ -20,7 +20,11 @@ same-length-3 : tie.Need-same-length-3
 same-length-3 c = search needs
 
 returns : tie.Need-returns
-returns c = event-refused (c .before .before .before .before .before .before .before .before .args .device) (worldOf (c .before .before .before .before .before .before .before .before .args .s) (c .before .before .before .before .before .before .before .before .args .cells .now) (c .before .before .before .before .before .before .before .before .args .identification .now) (c .before .before .before .before .before .before .before .before .args .latch .now)) (c .before .before .before .before .before .before .before .before .args .event) (c .before .world-refused .result) (c .before .world-refused .ensures) (c .if1 .taken)
+returns c =
+    let start = c .before .before .before .before .before .before .before .before .args in
+    let lent = worldOf (start .s) (start .cells .now) (start .identification .now) (start .latch .now) in
+    let judged = c .before .world-refused in
+    event-refused (start .device) lent (start .event) (judged .result) (judged .ensures) (c .if1 .taken)
 
 refused-requires : tie.Need-refused-requires
 refused-requires c κs = search needs
@@ -35,13 +39,24 @@ same-length-6 : tie.Need-same-length-6
 same-length-6 c = search needs
 
 returns-2 : tie.Need-returns-2
-returns-2 c = event-power (c .before .before .before .before .before .before .before .before .before .before .args .device) (worldOf (c .before .before .before .before .before .before .before .before .before .before .args .s) (c .before .before .before .before .before .before .before .before .before .before .args .cells .now) (c .before .before .before .before .before .before .before .before .before .before .args .identification .now) (c .before .before .before .before .before .before .before .before .before .before .args .latch .now)) (c .before .before .before .before .before .before .before .before .before .before .args .event) (c .before .before .before .world-refused .result) (c .before .before .before .world-refused .ensures) (c .before .before .if1 .left) (c .before .refused .result) (c .before .refused .ensures (rowOf (c .before .before .before .before .before .before .before .before .before .before .args .device)) (worldOf (c .before .before .before .before .before .before .before .before .before .before .args .s) (c .before .before .before .before .before .before .before .before .before .before .args .cells .now) (c .before .before .before .before .before .before .before .before .before .before .args .identification .now) (c .before .before .before .before .before .before .before .before .before .before .args .latch .now))) (omega (arith, c .if2 .taken))
+returns-2 c =
+    let start = c .before .before .before .before .before .before .before .before .before .before .args in
+    let lent = worldOf (start .s) (start .cells .now) (start .identification .now) (start .latch .now) in
+    let judged = c .before .before .before .world-refused in
+    let asked = c .before .refused in
+    event-power (start .device) lent (start .event) (judged .result) (judged .ensures) (c .before .before .if1 .left) (asked .result) (asked .ensures (rowOf (start .device)) lent)
+    (omega (arith, c .if2 .taken))
 
 row-of-requires : tie.Need-row-of-requires
 row-of-requires c κs = search needs
 
 step-requires : tie.Need-step-requires
-step-requires c κs = fine-row (c .before .before .before .before .before .before .before .before .before .before .before .before .before .before .args .device) (worldOf (c .before .before .before .before .before .before .before .before .before .before .before .before .before .before .args .s) (c .before .before .before .before .before .before .before .before .before .before .before .before .before .before .args .cells .now) (c .before .before .before .before .before .before .before .before .before .before .before .before .before .before .args .identification .now) (c .before .before .before .before .before .before .before .before .before .before .before .before .before .before .args .latch .now)) (c .before .before .before .row-of .result) (c .before .before .before .before .before .before .before .world-refused .result) (c .before .before .before .row-of .ensures) (c .before .before .before .before .before .before .before .world-refused .ensures) (c .before .before .before .before .before .before .if1 .left)
+step-requires c κs =
+    let start = c .before .before .before .before .before .before .before .before .before .before .before .before .before .before .args in
+    let lent = worldOf (start .s) (start .cells .now) (start .identification .now) (start .latch .now) in
+    let judged = c .before .before .before .before .before .before .before .world-refused in
+    let row = c .before .before .before .row-of in
+    fine-row (start .device) lent (row .result) (judged .result) (row .ensures) (judged .ensures) (c .before .before .before .before .before .before .if1 .left)
 
 answer-requires : tie.Need-answer-requires
 answer-requires c κs = search needs
@@ -59,7 +74,16 @@ same-length-9 : tie.Need-same-length-9
 same-length-9 c = search needs
 
 returns-3 : tie.Need-returns-3
-returns-3 c = event-done (c .before .before .before .before .before .before .before .before .before .before .before .before .before .before .before .before .before .before .before .before .before .before .args .device) (worldOf (c .before .before .before .before .before .before .before .before .before .before .before .before .before .before .before .before .before .before .before .before .before .before .args .s) (c .before .before .before .before .before .before .before .before .before .before .before .before .before .before .before .before .before .before .before .before .before .before .args .cells .now) (c .before .before .before .before .before .before .before .before .before .before .before .before .before .before .before .before .before .before .before .before .before .before .args .identification .now) (c .before .before .before .before .before .before .before .before .before .before .before .before .before .before .before .before .before .before .before .before .before .before .args .latch .now)) (c .before .before .before .before .before .before .before .before .before .before .before .before .before .before .before .before .before .before .before .before .before .before .args .event) (c .before .before .before .before .before .before .before .before .before .before .before .before .before .before .before .world-refused .result) (c .before .before .before .before .before .before .before .before .before .before .before .before .before .before .before .world-refused .ensures) (c .before .before .before .before .before .before .before .before .before .before .before .before .before .before .if1 .left) (c .before .before .before .before .before .before .before .before .before .before .before .before .before .refused .result) (c .before .before .before .before .before .before .before .before .before .before .before .before .before .refused .ensures (rowOf (c .before .before .before .before .before .before .before .before .before .before .before .before .before .before .before .before .before .before .before .before .before .before .args .device)) (worldOf (c .before .before .before .before .before .before .before .before .before .before .before .before .before .before .before .before .before .before .before .before .before .before .args .s) (c .before .before .before .before .before .before .before .before .before .before .before .before .before .before .before .before .before .before .before .before .before .before .args .cells .now) (c .before .before .before .before .before .before .before .before .before .before .before .before .before .before .before .before .before .before .before .before .before .before .args .identification .now) (c .before .before .before .before .before .before .before .before .before .before .before .before .before .before .before .before .before .before .before .before .before .before .args .latch .now))) (c .before .before .before .before .before .before .before .before .before .before .before .row-of .result) _ (c .answer .result) (omega (arith, c .before .before .before .before .before .before .before .before .before .before .before .before .if2 .left)) (c .before .before .before .before .before .before .before .before .before .before .before .row-of .ensures) (c .before .before .before .before .before .before .before .step .ensures) (c .answer .ensures)
+returns-3 c =
+    let stepped = c .before .before .before .before .before .before .before in
+    let start = stepped .before .before .before .before .before .before .before .before .before .before .before .before .before .before .before .args in
+    let lent = worldOf (start .s) (start .cells .now) (start .identification .now) (start .latch .now) in
+    let judged = stepped .before .before .before .before .before .before .before .before .world-refused in
+    let good = stepped .before .before .before .before .before .before .before .if1 .left in
+    let asked = stepped .before .before .before .before .before .before .refused in
+    let row = stepped .before .before .before .before .row-of in
+    event-done (start .device) lent (start .event) (judged .result) (judged .ensures) good (asked .result) (asked .ensures (rowOf (start .device)) lent) (row .result) _
+    (c .answer .result) (omega (arith, stepped .before .before .before .before .before .if2 .left)) (row .ensures) (stepped .step .ensures) (c .answer .ensures)
 
 pub event-spec : {M : Type 1} → statement M
 event-spec =
