@@ -1,10 +1,9 @@
 // Runs the stored vectors, which the second model made, through the library, and compares answers, numbers, counts, status, lock and
 // every stored byte. A file of data/ for each profile; a line for each profile, and a total.
-mod compare;
-mod vector;
 
-use compare::Tally;
 use libc::STDOUT_FILENO;
+use replay::compare;
+use replay::compare::Tally;
 
 // Prints a line: a name, how many vectors were run, and how many differ.
 fn tell(name: &[u8], tally: Tally) {

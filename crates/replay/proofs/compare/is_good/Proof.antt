@@ -1,9 +1,9 @@
--- `vectors::compare::is_good` meets its contract.
+-- `replay::compare::is_good` meets its contract.
 use mathlib.Core.Path.{_∙_, sym}
 use native.Mathlib.Omega.{arith}
 use borrow.Author.Needs.{needs}
-use Rattle.vectors.proofs.compare.is_good.Statement.{statement}
-use Rattle.vectors.proofs.compare.is_good.Tie as tie
+use Rattle.replay.proofs.compare.is_good.Statement.{statement}
+use Rattle.replay.proofs.compare.is_good.Tie as tie
 
 prepare-requires : tie.Need-prepare-requires
 prepare-requires c κs = search needs

@@ -1,11 +1,11 @@
--- `vectors::compare::take_back` meets its contract.
+-- `replay::compare::take_back` meets its contract.
 use Prim.Native.Nat.{_-_, _≤_}
 use mathlib.Core.Path.{_≡_, refl, _∙_}
 use native.Mathlib.Omega.{arith}
 use lib.ListN.{length, length-set}
 use borrow.Author.Needs.{needs}
-use Rattle.vectors.proofs.compare.take_back.Statement.{statement}
-use Rattle.vectors.proofs.compare.take_back.Tie as tie
+use Rattle.replay.proofs.compare.take_back.Statement.{statement}
+use Rattle.replay.proofs.compare.take_back.Tie as tie
 
 abbrev Inv-loop : tie.InvT-loop
 Inv-loop bytes at count memory₀ prepared i₀ memory i = (i ≤ count) × (length memory ≡ length memory₀)

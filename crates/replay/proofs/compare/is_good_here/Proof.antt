@@ -1,11 +1,11 @@
--- `vectors::compare::is_good_here` meets its contract.
+-- `replay::compare::is_good_here` meets its contract.
 use mathlib.Core.Path.{refl, sym}
 use native.Mathlib.Omega.{arith}
 use lib.Seq.{length-take-le}
 use Rattle.player.proofs.Playing.{room}
 use borrow.Author.Needs.{needs}
-use Rattle.vectors.proofs.compare.is_good_here.Statement.{statement}
-use Rattle.vectors.proofs.compare.is_good_here.Tie as tie
+use Rattle.replay.proofs.compare.is_good_here.Statement.{statement}
+use Rattle.replay.proofs.compare.is_good_here.Tie as tie
 
 row-of-requires : tie.Need-row-of-requires
 row-of-requires c κs = search needs

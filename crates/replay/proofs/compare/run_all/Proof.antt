@@ -1,10 +1,10 @@
--- `vectors::compare::run_all` meets its contract.
+-- `replay::compare::run_all` meets its contract.
 use Prim.Native.Nat.{_-_, _≤_}
 use native.Mathlib.Omega.{arith}
 use lib.ListN.{length}
 use borrow.Author.Needs.{needs}
-use Rattle.vectors.proofs.compare.run_all.Statement.{statement}
-use Rattle.vectors.proofs.compare.run_all.Tie as tie
+use Rattle.replay.proofs.compare.run_all.Statement.{statement}
+use Rattle.replay.proofs.compare.run_all.Tie as tie
 
 abbrev Inv-loop : tie.InvT-loop
 Inv-loop bytes tally₀ at₀ tally at = at ≤ length bytes

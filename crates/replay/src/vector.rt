@@ -4,7 +4,7 @@
 ghost use Prim.Native.Nat.{_+_, _≤_, _<_};
 ghost use mathlib.Core.Path.{_≡_};
 ghost use lib.ListN.{length};
-ghost use Rattle.vectors.specs.Vector.{Short, sizeOf};
+ghost use Rattle.replay.specs.Vector.{Short, sizeOf};
 
 // What a header says: the device, how the run ends, and how long the parts are.
 pub struct Header {

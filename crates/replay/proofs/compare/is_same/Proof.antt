@@ -1,10 +1,10 @@
--- `vectors::compare::is_same` meets its contract.
+-- `replay::compare::is_same` meets its contract.
 use Prim.Native.Nat.{_-_, _≤_}
 use native.Mathlib.Omega.{arith}
 use lib.ListN.{length}
 use borrow.Author.Needs.{needs}
-use Rattle.vectors.proofs.compare.is_same.Statement.{statement}
-use Rattle.vectors.proofs.compare.is_same.Tie as tie
+use Rattle.replay.proofs.compare.is_same.Statement.{statement}
+use Rattle.replay.proofs.compare.is_same.Tie as tie
 
 abbrev Inv-loop : tie.InvT-loop
 Inv-loop bytes at count others i₀ i = (i ≤ count) × (count ≤ length others)

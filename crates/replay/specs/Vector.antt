@@ -1,6 +1,6 @@
 -- A stored vector: its parts are each below 2 to the power 32, and so many bytes in all.
 use Prim.Native.Nat.{ℕ, _+_, _*_, _<_}
-use Rattle.vectors.specs.declared.vector.Header.{Header}
+use Rattle.replay.specs.declared.vector.Header.{Header}
 
 pub record Short (h : Header) : Type 0 where
   pub trace : h .trace < 4_294_967_296
