@@ -1,4 +1,4 @@
--- `play::play_loaded` meets its contract.
+-- `playthrough::run::play_loaded` meets its contract.
 use mathlib.Core.Path.{_≡_, sym, subst}
 use native.Mathlib.Omega.{arith}
 use Rattle.rules.specs.declared.State.{State}
@@ -6,8 +6,8 @@ use Rattle.rules.specs.World.{worldOf}
 use Rattle.rules.specs.Call.{worldRefusal}
 use Rattle.m95.proofs.Calling.{fine-status}
 use borrow.Author.Needs.{needs}
-use Rattle.play.proofs.play_loaded.Statement.{statement}
-use Rattle.play.proofs.play_loaded.Tie as tie
+use Rattle.playthrough.proofs.run.play_loaded.Statement.{statement}
+use Rattle.playthrough.proofs.run.play_loaded.Tie as tie
 
 large-buffer-requires : tie.Need-large-buffer-requires
 large-buffer-requires c κs = search needs

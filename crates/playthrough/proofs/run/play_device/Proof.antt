@@ -1,12 +1,12 @@
--- `play::play_device` meets its contract.
+-- `playthrough::run::play_device` meets its contract.
 use native.Mathlib.Omega.{arith}
 use mathlib.Core.Path.{sym}
 use lib.Seq.{length-take-le}
 use Rattle.m95.proofs.Calling.{a-device, lent-room}
 use Rattle.player.proofs.Playing.{room}
 use borrow.Author.Needs.{needs}
-use Rattle.play.proofs.play_device.Statement.{statement}
-use Rattle.play.proofs.play_device.Tie as tie
+use Rattle.playthrough.proofs.run.play_device.Statement.{statement}
+use Rattle.playthrough.proofs.run.play_device.Tie as tie
 
 row-of-requires : tie.Need-row-of-requires
 row-of-requires c κs = search needs

@@ -1,9 +1,9 @@
--- `play::play_lent` meets its contract.
+-- `playthrough::run::play_lent` meets its contract.
 use mathlib.Core.Path.{_∙_}
-use Rattle.play.proofs.Loading.{load-fits, loaded}
+use Rattle.playthrough.proofs.Loading.{load-fits, loaded}
 use borrow.Author.Needs.{needs}
-use Rattle.play.proofs.play_lent.Statement.{statement}
-use Rattle.play.proofs.play_lent.Tie as tie
+use Rattle.playthrough.proofs.run.play_lent.Statement.{statement}
+use Rattle.playthrough.proofs.run.play_lent.Tie as tie
 
 prepare-requires : tie.Need-prepare-requires
 prepare-requires c κs = search needs

@@ -1,0 +1,175 @@
+// A run of play on a device, by the names of its files: CHIP loaded, TRACE run into ANSWERS, and CHIP replaced by way of NEW.
+
+ghost use Prim.Native.Nat.{_≤_};
+ghost use mathlib.Core.Path.{_≡_};
+ghost use lib.ListN.{length};
+ghost use Rattle.rules.specs.World.{worldOf};
+ghost use Rattle.rules.specs.Call.{lentRefusal, worldRefusal};
+use crate::chip::replace;
+use crate::say::complain;
+use crate::say::fail;
+use crate::say::is_faulty;
+use crate::say::tell;
+use crate::say::tell_kind_16;
+use player::contents;
+use player::pieces;
+use player::pieces::Played;
+use rules::State;
+
+// Runs the trace into ANSWERS, from what was read of it. Trouble is told, and marked in what is handed back.
+fn play_into(
+    device: u8,
+    start: Played,
+    cells: &mut [u8],
+    identification: &mut [u8],
+    latch: &mut [u8],
+    buf: &mut [u8],
+    input: i32,
+    trace: &[u8],
+    answers: &[u8],
+) -> Played
+    requires { ⌜ (worldRefusal device (worldOf (start .state) (now cells) (now identification) (now latch)) ≡ 0) × (start .filled ≤ length (now buf)) × (length (now buf) ≡ 65536) ⌝ }
+    ensures { λ r. ⌜ worldRefusal device (worldOf (r .state) (now (cells .exit)) (now (identification .exit)) (now (latch .exit))) ≡ 0 ⌝ }
+{
+    let mut room = io::large_buffer();
+    let output = os::open_overwrite(answers);
+    let mut played = start;
+    if output < 0 {
+        fail(b"play: cannot write the answers ", answers);
+        played.unwritten = true;
+        return played;
+    }
+    played = pieces::play_all(
+        device,
+        start,
+        cells,
+        identification,
+        latch,
+        buf,
+        &mut room,
+        input,
+        output,
+    );
+    if played.unread {
+        fail(b"play: cannot read to its end the trace ", trace);
+        return played;
+    }
+    let is_closed = libc::close(output) == 0;
+    played.unwritten = played.unwritten | !is_closed;
+    if played.unwritten {
+        fail(b"play: cannot write the answers ", answers);
+    }
+    played
+}
+
+// Plays the trace on a chip that is loaded. TRACE is read, and NEW is open, before ANSWERS is touched.
+fn play_loaded(
+    device: u8,
+    state: State,
+    cells: &mut [u8],
+    identification: &mut [u8],
+    latch: &mut [u8],
+    chip: &[u8],
+    trace: &[u8],
+    answers: &[u8],
+    new: &[u8],
+)
+    requires { ⌜ worldRefusal device (worldOf state (now cells) (now identification) (now latch)) ≡ 0 ⌝ }
+{
+    let mut buf = io::large_buffer();
+    let input = os::open_read(trace);
+    if input < 0 {
+        fail(b"play: cannot read the trace ", trace);
+        return;
+    }
+    let read = files::read_up(input, &mut buf);
+    let count = read.count;
+    if read.failed {
+        fail(b"play: cannot read the trace ", trace);
+        return;
+    }
+    let fresh = os::open_overwrite(new);
+    if fresh < 0 {
+        fail(b"play: cannot write the chip's new contents ", new);
+        return;
+    }
+    tell_kind_16(&buf[..count]);
+    let start = pieces::started(state, count);
+    let played = play_into(
+        device,
+        start,
+        cells,
+        identification,
+        latch,
+        &mut buf,
+        input,
+        trace,
+        answers,
+    );
+    if replace(played, fresh, cells, identification, new, chip) {
+        tell(played);
+    }
+}
+
+// Plays the trace in buffers of the device's lengths: a prepared chip, with what its file holds.
+fn play_lent(
+    device: u8,
+    cells: &mut [u8],
+    identification: &mut [u8],
+    latch: &mut [u8],
+    chip: &[u8],
+    trace: &[u8],
+    answers: &[u8],
+    new: &[u8],
+)
+    requires { ⌜ lentRefusal device (now cells) (now identification) (now latch) ≡ 0 ⌝ }
+{
+    m95::prepare(device, cells, identification, latch);
+    let row = tables::row_of(device);
+    let said = contents::load(row, chip, cells, identification);
+    let fault = said.fault;
+    if is_faulty(fault, chip) {
+        return;
+    }
+    let loaded = m95::load(device, said.stored);
+    if loaded.number != 0 {
+        complain(
+            b"play: CHIP's last two bytes: its status byte has bits that the device has not, or its lock byte is neither 0 nor 1\n",
+        );
+        return;
+    }
+    play_loaded(
+        device,
+        loaded.state,
+        cells,
+        identification,
+        latch,
+        chip,
+        trace,
+        answers,
+        new,
+    );
+}
+
+// Plays the trace on a device, in as much of the room as it has cells and pages.
+pub fn play_device(device: u8, chip: &[u8], trace: &[u8], answers: &[u8], new: &[u8])
+    requires { ⌜ (1 ≤ device) × (device ≤ 4) ⌝ }
+{
+    let mut cells = [0xFFu8; 262144];
+    let mut identification = [0u8; 256];
+    let mut latch = [0u8; 512];
+    let row = tables::row_of(device);
+    let room = row.cells;
+    let page = row.page;
+    let both = page + page;
+    play_lent(
+        device,
+        &mut cells[..room],
+        &mut identification[..page],
+        &mut latch[..both],
+        chip,
+        trace,
+        answers,
+        new,
+    );
+}
