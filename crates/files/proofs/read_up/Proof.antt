@@ -26,9 +26,9 @@ first : (a b : Bool) → (a && b) ≡ true → a ≡ true
 first true b e = refl
 first false b e = absurd (true≢false (sym e))
 
--- What was read into a part fits in what is left.
-fits : (buf part : List ℕ) (c m : ℕ) → c ≤ length buf → length (putMid c (length buf - c) buf part) ≡ length buf → m ≤ length (midOf c (length (putMid c (length buf - c) buf part) - c) (putMid c (length buf - c) buf part)) → c + m ≤ length buf
-fits buf part c m h e k = omega (arith, h, e, k, mid-len c (length (putMid c (length buf - c) buf part)) (putMid c (length buf - c) buf part) (omega arith))
+-- What was read into the part from a place on fits in what is left.
+fits : (buf after : List ℕ) (c m : ℕ) → c ≤ length buf → length after ≡ length buf → m ≤ length (midOf c (length after - c) after) → c + m ≤ length buf
+fits buf after c m h e k = omega (arith, h, e, k, mid-len c (length after) after (omega arith))
 
 abbrev Inv-loop : tie.InvT-loop
 Inv-loop fd buf₀ count₀ failed₀ going₀ buf count failed going = (count ≤ length buf) × (length buf ≡ length buf₀)
@@ -68,23 +68,37 @@ add-count c = omega arith
 
 loop-less : tie.Need-loop-less Inv-loop μ-loop
 loop-less c =
-    let buf = putMid (c .before .before .before .before .before .before .before .before .loop .count) (length (c .before .before .before .before .before .before .before .before .loop .buf) - c .before .before .before .before .before .before .before .before .loop .count) (c .before .before .before .before .before .before .before .before .loop .buf) (c .before .before .before .before .before .read .last .1 .0) in
-    let e : length buf ≡ length (c .before .before .before .before .before .before .before .before .loop .buf) = search needs in
-    let some = ltb 0 (c .count .result) in
-    let room = ltb (c .before .before .before .before .before .before .before .before .loop .count + c .count .result) (length buf) in
-    less (c .before .before .before .before .before .before .before .before .loop .going) (some && room) (length (c .before .before .before .before .before .before .before .before .before .before .args .buf .now)) (c .before .before .before .before .before .before .before .before .loop .count) (c .count .result) (c .before .before .before .before .before .before .before .loop-test .taken) (λ h. ltb-true 0 (c .count .result) (first some room h))
-    (omega (arith, c .before .before .before .before .before .before .before .before .loop .inv .1, fits (c .before .before .before .before .before .before .before .before .loop .buf) (c .before .before .before .before .before .read .last .1 .0) (c .before .before .before .before .before .before .before .before .loop .count) (c .count .result) (c .before .before .before .before .before .before .before .before .loop .inv .0) e (c .count .ensures .0 .0)))
+    let at-read = c .before .before .before .before .before in
+    let going = at-read .before .before in
+    let head = going .before in
+    let start = head .before .before in
+    let at = head .loop .count in
+    let old = head .loop .buf in
+    let new = putMid at (length old - at) old (at-read .read .last .1 .0) in
+    let same : length new ≡ length old = search needs in
+    let more = c .count .result in
+    let some = ltb 0 more in
+    let room = ltb (at + more) (length new) in
+    less (head .loop .going) (some && room) (length (start .args .buf .now)) at more (going .loop-test .taken) (λ h. ltb-true 0 more (first some room h))
+    (omega (arith, head .loop .inv .1, fits old new at more (head .loop .inv .0) same (c .count .ensures .0 .0)))
 
 loop-again : tie.Need-loop-again Inv-loop μ-loop
 loop-again c =
-    let e : length (putMid (c .before .before .before .before .before .before .before .before .loop .count) (length (c .before .before .before .before .before .before .before .before .loop .buf) - c .before .before .before .before .before .before .before .before .loop .count) (c .before .before .before .before .before .before .before .before .loop .buf) (c .before .before .before .before .before .read .last .1 .0)) ≡ length (c .before .before .before .before .before .before .before .before .loop .buf) = search needs in
-    (omega (arith, e, fits (c .before .before .before .before .before .before .before .before .loop .buf) (c .before .before .before .before .before .read .last .1 .0) (c .before .before .before .before .before .before .before .before .loop .count) (c .count .result) (c .before .before .before .before .before .before .before .before .loop .inv .0) e (c .count .ensures .0 .0)), e ∙ c .before .before .before .before .before .before .before .before .loop .inv .1)
+    let at-read = c .before .before .before .before .before in
+    let head = at-read .before .before .before in
+    let at = head .loop .count in
+    let old = head .loop .buf in
+    let new = putMid at (length old - at) old (at-read .read .last .1 .0) in
+    let same : length new ≡ length old = search needs in
+    (omega (arith, same, fits old new at (c .count .result) (head .loop .inv .0) same (c .count .ensures .0 .0)), same ∙ head .loop .inv .1)
 
 same-length : tie.Need-same-length Inv-loop μ-loop
 same-length c = c .before .loop .inv .1
 
 returns : tie.Need-returns Inv-loop μ-loop
-returns c = (c .before .loop .inv .0, sym (length-take-le (c .before .loop .count) (c .before .loop .buf) (c .before .loop .inv .0)))
+returns c =
+    let head = c .before .loop in
+    (head .inv .0, sym (length-take-le (head .count) (head .buf) (head .inv .0)))
 
 pub read-up-spec : {M : Type 1} → statement M
 read-up-spec =
