@@ -53,9 +53,9 @@ pub within : (k a p : ℕ) → p ≡ 2 ^ k → bitAnd a (p - 1) ≡ a % p
 within k a p h = rw (h, and-mask)
 
 -- An address byte at the low end, within the cells.
-pub address-byte : (row : Row) → Widths row → (a b : ℕ) → a < row .cells → b < 256 → bitAnd (bitOr (a * 256 % 2 ^ 64) b) (row .cells - 1) ≡ longer row a b
+pub address-byte : {row : Row} → Widths row → (a b : ℕ) → a < row .cells → b < 256 → bitAnd (bitOr (a * 256 % 2 ^ 64) b) (row .cells - 1) ≡ longer row a b
 unfolding longer
-address-byte row v a b ha hb =
+address-byte {row} v a b ha hb =
     let small : 2 ^ v .cellBits ≤ 2 ^ 24 = pow-mono (v .narrow) in
     let inside : a < 2 ^ v .cellBits = subst (λ (n : ℕ). a < n) (v .cells) ha in
     let whole : a * 256 % 2 ^ 64 ≡ a * 256 = mod-eq-of-lt (omega arith) in
@@ -76,16 +76,22 @@ mask-a8 x h = eqb→eq _ _ (passes 256 a8-test tt x h)
 abbrev bitsOf : Bool → ℕ → ℕ
 bitsOf srwd v = number (srwd && bit v 7) * 128 + v / 4 % 4 * 4
 
-stored-test : Bool → ℕ → ℕ → Bool
-stored-test srwd mask x = eqb (bitAnd x mask) (bitsOf srwd x)
+-- The status bits that are stored, by SRWD.
+abbrev mask : Bool → ℕ
+mask true = 0x8C
+mask false = 0x0C
 
-mask-8C : (x : ℕ) → x < 256 → bitAnd x 0x8C ≡ bitsOf true x
-unfolding stored-test
-mask-8C x h = eqb→eq _ _ (passes 256 (stored-test true 0x8C) tt x h)
+stored-test : Bool → ℕ → Bool
+stored-test srwd x = eqb (bitAnd x (mask srwd)) (bitsOf srwd x)
 
-mask-0C : (x : ℕ) → x < 256 → bitAnd x 0x0C ≡ bitsOf false x
+stored-all : (srwd : Bool) → T (below 256 (stored-test srwd))
 unfolding stored-test
-mask-0C x h = eqb→eq _ _ (passes 256 (stored-test false 0x0C) tt x h)
+stored-all true = tt
+stored-all false = tt
+
+pub stored-bits : (row : Row) {srwd : Bool} (x : ℕ) → row .srwd ≡ srwd → x < 256 → bitAnd x (mask srwd) ≡ storable row x
+unfolding stored-test
+stored-bits row {srwd} x e h = rw e (eqb→eq _ _ (passes 256 (stored-test srwd) (stored-all srwd) x h))
 
 -- The status byte, over all bytes, both kinds of device and both flags.
 status-test : Bool → Bool → Bool → ℕ → Bool
@@ -110,17 +116,10 @@ pub or-status : (row : Row) (x : ℕ) (wel busy : Bool) → x < 256 → storable
 unfolding status-test
 or-status row x wel busy h e = eqb→eq _ _ (or-else _ _ (eq-eqb _ _ e) (passes 256 (status-test (row .srwd) wel busy) (status-all (row .srwd) wel busy) x h))
 
--- The two kinds of device, by SRWD.
-pub stored-8C : (row : Row) (x : ℕ) → row .srwd ≡ true → x < 256 → bitAnd x 0x8C ≡ storable row x
-stored-8C row x e h = rw e (mask-8C x h)
-
-pub stored-0C : (row : Row) (x : ℕ) → row .srwd ≡ false → x < 256 → bitAnd x 0x0C ≡ storable row x
-stored-0C row x e h = rw e (mask-0C x h)
-
 -- The cells fit a machine word with room to spare.
 pub cells-fit : {row : Row} → Widths row → row .cells ≤ 2 ^ 24
 cells-fit v = rw (v .cells) (pow-mono (v .narrow))
 
-pub roll-eq : (row : Row) (a p q : ℕ) → p ≡ a % row .page → q ≡ (p + 1) % row .page → a - p + q ≡ rolled row a
+pub roll-eq : (row : Row) (a : ℕ) {p q : ℕ} → p ≡ a % row .page → q ≡ (p + 1) % row .page → a - p + q ≡ rolled row a
 unfolding rolled
-roll-eq row a p q e f = rw (f, e)
+roll-eq row a e f = rw (f, e)

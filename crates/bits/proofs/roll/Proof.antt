@@ -21,10 +21,21 @@ place-requires-2 : tie.Need-place-requires-2
 place-requires-2 c κs = search needs
 
 add-result : tie.Need-add-result
-add-result c = omega (arith, c .before .place .ensures, c .place2 .ensures, c .before .before .pre .1, cells-fit (c .before .before .pre .0), page-below (c .before .before .pre .0), mod-lt (c .before .place .result + 1) {m = c .before .before .args .row .page} (page-positive (c .before .before .pre .0)))
+add-result c =
+    let start = c .before .before in
+    let at = c .before .place in
+    omega (
+      arith,
+      at .ensures,
+      c .place2 .ensures,
+      start .pre .1,
+      cells-fit (start .pre .0),
+      page-below (start .pre .0),
+      mod-lt (at .result + 1) {m = start .args .row .page} (page-positive (start .pre .0)),
+    )
 
 returns : tie.Need-returns
-returns c = roll-eq (c .before .before .args .row) (c .before .before .args .address) (c .before .place .result) (c .place2 .result) (c .before .place .ensures) (c .place2 .ensures)
+returns c = let start = c .before .before in roll-eq (start .args .row) (start .args .address) (c .before .place .ensures) (c .place2 .ensures)
 
 pub roll-spec : {M : Type 1} → statement M
 roll-spec =
