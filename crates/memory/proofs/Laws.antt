@@ -51,9 +51,9 @@ pub fill-all : (n v : ℕ) (d : List ℕ) → n ≡ length d → replicate n v +
 fill-all n v d e = rw (drop-of-length-le d {i = n} (omega arith), append-nil (replicate n v), e)
 
 -- The second of two pages, filled with 0 and put back: the marks are cleared.
-pub part-cleared : (row : Row) (l ys : List ℕ) → length l ≡ row .page + row .page → ys ≡ replicate (length (take (length l - row .page) (drop (row .page) l))) 0
+pub part-cleared : (row : Row) (l : List ℕ) {ys : List ℕ} → length l ≡ row .page + row .page → ys ≡ replicate (length (take (length l - row .page) (drop (row .page) l))) 0
     → take (row .page) l ++ (ys ++ drop (length l - row .page) (drop (row .page) l)) ≡ cleared row l
-part-cleared row l ys long e =
+part-cleared row l long e =
     let k : length (take (length l - row .page) (drop (row .page) l)) ≡ row .page = simp (length-take, length-drop) (omega arith) in
     rw (e, k, drop-of-length-le (drop (row .page) l) {i = length l - row .page} (simp length-drop (omega arith)), append-nil {A = ℕ} (replicate (row .page) 0))
 

@@ -21,7 +21,10 @@ shared-slice-read-if1 : tie.Need-shared-slice-read-if1 Inv-loop μ-loop
 shared-slice-read-if1 c = omega arith
 
 returns : tie.Need-returns Inv-loop μ-loop
-returns c = sym (c .before .before .before .loop .inv .2 ∙ mark-bad (c .before .before .before .before .args .marks .now) (c .before .before .before .loop .i) (omega arith) (c .if1 .taken))
+returns c =
+    let head = c .before .before .before in
+    let start = head .before in
+    sym (head .loop .inv .2 ∙ mark-bad (start .args .marks .now) (head .loop .i) (omega arith) (c .if1 .taken))
 
 add-i : tie.Need-add-i Inv-loop μ-loop
 add-i c = omega arith
@@ -30,7 +33,10 @@ loop-less : tie.Need-loop-less Inv-loop μ-loop
 loop-less c = omega arith
 
 loop-again : tie.Need-loop-again Inv-loop μ-loop
-loop-again c = (c .before .before .before .loop .inv .0, omega arith, c .before .before .before .loop .inv .2 ∙ mark-good (c .before .before .before .before .args .marks .now) (c .before .before .before .loop .i) (omega arith) (c .if1 .left))
+loop-again c =
+    let head = c .before .before .before in
+    let start = head .before in
+    (head .loop .inv .0, omega arith, head .loop .inv .2 ∙ mark-good (start .args .marks .now) (head .loop .i) (omega arith) (c .if1 .left))
 
 returns-2 : tie.Need-returns-2 Inv-loop μ-loop
 returns-2 c = sym (c .before .loop .inv .2 ∙ marks-end (c .before .before .args .marks .now) (c .before .loop .i) (omega arith))

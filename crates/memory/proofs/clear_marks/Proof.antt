@@ -20,7 +20,9 @@ same-length : tie.Need-same-length
 same-length c = search needs
 
 returns : tie.Need-returns
-returns c = part-cleared (c .before .before .before .before .before .args .row) (c .before .before .before .before .before .args .latch .now) _ (c .before .before .before .before .before .pre) (c .before .before .fill .ensures)
+returns c =
+    let start = c .before .before .before .before .before in
+    part-cleared (start .args .row) (start .args .latch .now) (start .pre) (c .before .before .fill .ensures)
 
 pub clear-marks-spec : {M : Type 1} → statement M
 clear-marks-spec =

@@ -28,13 +28,17 @@ loop-less : tie.Need-loop-less Inv-loop μ-loop
 loop-less c = omega arith
 
 loop-again : tie.Need-loop-again Inv-loop μ-loop
-loop-again c = (c .before .loop .inv .0, omega arith, simp length-set (c .before .loop .inv .2), cc (fill-more (c .before .loop .i) (c .before .before .args .value) (c .before .before .args .bytes .now) (omega arith)))
+loop-again c =
+    let start = c .before .before in
+    (c .before .loop .inv .0, omega arith, simp length-set (c .before .loop .inv .2), cc (fill-more (c .before .loop .i) (start .args .value) (start .args .bytes .now) (omega arith)))
 
 same-length : tie.Need-same-length Inv-loop μ-loop
 same-length c = omega arith
 
 returns : tie.Need-returns Inv-loop μ-loop
-returns c = c .before .loop .inv .3 ∙ fill-all (c .before .loop .i) (c .before .before .args .value) (c .before .before .args .bytes .now) (omega arith)
+returns c =
+    let start = c .before .before in
+    c .before .loop .inv .3 ∙ fill-all (c .before .loop .i) (start .args .value) (start .args .bytes .now) (omega arith)
 
 pub fill-spec : {M : Type 1} → statement M
 fill-spec =

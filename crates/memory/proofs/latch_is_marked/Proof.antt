@@ -19,7 +19,9 @@ are-marks-requires : tie.Need-are-marks-requires
 are-marks-requires c κs = search needs
 
 returns : tie.Need-returns
-returns c = c .are-marks .ensures ∙ ap areMarks (part-marks (c .before .before .before .args .row) (c .before .before .before .args .latch .now))
+returns c =
+    let start = c .before .before .before in
+    c .are-marks .ensures ∙ ap areMarks (part-marks (start .args .row) (start .args .latch .now))
 
 pub latch-is-marked-spec : {M : Type 1} → statement M
 latch-is-marked-spec =

@@ -10,25 +10,35 @@ fill-requires : tie.Need-fill-requires
 fill-requires c κs = search needs
 
 slice-write-page : tie.Need-slice-write-page
-slice-write-page c = omega (arith, c .before .before .before .before .before .before .pre .0 .pageLeast, c .before .before .before .before .before .before .pre .1, length-fill (length (c .before .before .before .before .before .before .args .page .now)) (c .before .before .before .fill .ensures))
+slice-write-page c =
+    let start = c .before .before .before .before .before .before in
+    omega (arith, start .pre .0 .pageLeast, start .pre .1, length-fill (length (start .args .page .now)) (c .before .before .before .fill .ensures))
 
 slice-write-page-2 : tie.Need-slice-write-page-2
-slice-write-page-2 c = simp length-set (omega (arith, c .before .before .before .before .before .before .pre .0 .pageLeast, c .before .before .before .before .before .before .pre .1, length-fill (length (c .before .before .before .before .before .before .args .page .now)) (c .before .before .before .fill .ensures)))
+slice-write-page-2 c =
+    let start = c .before .before .before .before .before .before in
+    simp length-set (omega (arith, start .pre .0 .pageLeast, start .pre .1, length-fill (length (start .args .page .now)) (c .before .before .before .fill .ensures)))
 
 slice-write-page-3 : tie.Need-slice-write-page-3
-slice-write-page-3 c = simp length-set (omega (arith, c .before .before .before .before .before .before .pre .0 .pageLeast, c .before .before .before .before .before .before .pre .1, length-fill (length (c .before .before .before .before .before .before .args .page .now)) (c .before .before .before .fill .ensures)))
+slice-write-page-3 c =
+    let start = c .before .before .before .before .before .before in
+    simp length-set (omega (arith, start .pre .0 .pageLeast, start .pre .1, length-fill (length (start .args .page .now)) (c .before .before .before .fill .ensures)))
 
 same-length : tie.Need-same-length
 same-length c = search needs
 
 returns : tie.Need-returns
-returns c = rw (c .before .before .before .fill .ensures, c .before .before .before .before .before .before .pre .1) (with-code (c .before .before .before .before .before .before .args .row) (c .before .before .before .before .before .before .args .row .page) (c .if1 .taken) (c .before .before .before .before .before .before .pre .0 .pageLeast))
+returns c =
+    let start = c .before .before .before .before .before .before in
+    rw (c .before .before .before .fill .ensures, start .pre .1) (with-code (start .args .row) (start .args .row .page) (c .if1 .taken) (start .pre .0 .pageLeast))
 
 same-length-2 : tie.Need-same-length-2
 same-length-2 c = search needs
 
 returns-2 : tie.Need-returns-2
-returns-2 c = rw (c .before .before .before .fill .ensures, c .before .before .before .before .before .before .pre .1) (without-code (c .before .before .before .before .before .before .args .row) (c .before .before .before .before .before .before .args .row .page) (c .if1 .left))
+returns-2 c =
+    let start = c .before .before .before .before .before .before in
+    rw (c .before .before .before .fill .ensures, start .pre .1) (without-code (start .args .row) (start .args .row .page) (c .if1 .left))
 
 pub prepare-identification-spec : {M : Type 1} → statement M
 prepare-identification-spec =

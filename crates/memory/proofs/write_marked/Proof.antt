@@ -42,8 +42,9 @@ loop-less c = omega arith
 
 loop-again : tie.Need-loop-again Inv-loop μ-loop
 loop-again c =
+    let start = c .before .before .before .before in
     let l = c .before .before .before .loop in
-    let a = c .before .before .before .before .args in
+    let a = start .args in
     ⊎-elim
     (λ w. (omega arith, ap length (w .2) ∙ simp length-set (l .inv .1), cc (written-set (a .row .page) (a .latch .now) (a .start) (a .bytes .now) (l .i) (omega (arith, w .0 .taken)))))
     (λ w. (omega arith, ap length (w .1) ∙ l .inv .1, cc (written-keep (a .row .page) (a .latch .now) (a .start) (a .bytes .now) (l .i) (omega (arith, w .0 .left)))))
