@@ -1,6 +1,6 @@
--- Looking a code up, in one step for each way through the code.
+-- Looking a code up, in one step for each way through the code; and the arm that a value is taken by.
 use Prim.Native.Nat.{ℕ, zero, suc, _-_, _*_, _<_}
-use mathlib.Core.Path.{_≡_, refl, _∙_}
+use mathlib.Core.Path.{_≡_, refl, sym, ap, _∙_}
 use mathlib.Core.Bool.{Bool, true, false}
 use mathlib.Core.List.{List, [], _∷_}
 use native.Mathlib.Omega.{arith}
@@ -14,17 +14,29 @@ use Rattle.rules.specs.World.{if_then_else_, bit, number}
 use Rattle.rules.specs.Device.{single}
 use Rattle.rules.specs.Instruction.{lookUp, codes, decode}
 
+-- What the arm of a value says holds of whatever is that value.
+pub arm : {A B : Type 0} (f : A → B) {x y : A} {b : B} → x ≡ y → b ≡ f y → b ≡ f x
+arm f e h = h ∙ ap f (sym e)
+
 -- The six codes that are not exact.
 abbrev pub plainly : ℕ → Instruction
-plainly p = if eqb p 0x06 then Wren else if eqb p 0x04 then Wrdi else if eqb p 0x05 then Rdsr else if eqb p 0x01 then Wrsr else if eqb p 0x03 then Read else if eqb p 0x02 then Write else Unknown
+plainly p =
+    if eqb p 0x06 then Wren
+    else if eqb p 0x04 then Wrdi
+    else if eqb p 0x05 then Rdsr
+    else if eqb p 0x01 then Wrsr
+    else if eqb p 0x03 then Read
+    else if eqb p 0x02 then Write
+    else Unknown
 
-look : (one : Bool) (c p : ℕ) → p ≡ (if one then c - number (bit c 3) * 8 else c) → (c ≡ 0x83 → ⊥) → (c ≡ 0x82 → ⊥) → plainly p ≡ lookUp one c codes
-look true c p e a b = rw (e, ne-eqb c 0x83 a, ne-eqb c 0x82 b)
-look false c p e a b = rw (e, ne-eqb c 0x83 a, ne-eqb c 0x82 b)
+look : (one : Bool) (c : ℕ) {p : ℕ} → p ≡ (if one then c - number (bit c 3) * 8 else c) → (c ≡ 0x83 → ⊥) → (c ≡ 0x82 → ⊥) → plainly p ≡ lookUp one c codes
+look true c e a b = rw (e, ne-eqb c 0x83 a, ne-eqb c 0x82 b)
+look false c e a b = rw (e, ne-eqb c 0x83 a, ne-eqb c 0x82 b)
 
-pub decode-plain : (row : Row) (c p : ℕ) (i : Instruction) → p ≡ (if single row then c - number (bit c 3) * 8 else c) → (c ≡ 0x83 → ⊥) → (c ≡ 0x82 → ⊥) → i ≡ plainly p → i ≡ decode row c
+pub decode-plain : (row : Row) (c : ℕ) {p : ℕ} {i : Instruction} → p ≡ (if single row then c - number (bit c 3) * 8 else c) → (c ≡ 0x83 → ⊥) → (c ≡ 0x82 → ⊥) → i ≡ plainly p
+    → i ≡ decode row c
 unfolding decode
-decode-plain row c p i e a b f = f ∙ look (single row) c p e a b
+decode-plain row c e a b f = f ∙ look (single row) c e a b
 
 exact : (one : Bool) → (Rdid ≡ lookUp one 0x83 codes) × (Wrid ≡ lookUp one 0x82 codes)
 exact true = (refl, refl)
@@ -38,8 +50,8 @@ pub decode-wrid : (row : Row) (c : ℕ) → c ≡ 0x82 → Wrid ≡ decode row c
 unfolding decode
 decode-wrid row c e = rw e (exact (single row) .1)
 
-pub plain-one : (row : Row) (c p : ℕ) → row .width ≡ 1 → p ≡ c - number (bit c 3) * 8 → p ≡ (if single row then c - number (bit c 3) * 8 else c)
-plain-one row c p e f = f ∙ rw e
+pub plain-one : (row : Row) (c : ℕ) {p : ℕ} → row .width ≡ 1 → p ≡ c - number (bit c 3) * 8 → p ≡ (if single row then c - number (bit c 3) * 8 else c)
+plain-one row c e f = f ∙ rw e
 
 pub plain-more : (row : Row) (c : ℕ) → (row .width ≡ 1 → ⊥) → c ≡ (if single row then c - number (bit c 3) * 8 else c)
 plain-more row c e = rw (ne-eqb (row .width) 1 e)

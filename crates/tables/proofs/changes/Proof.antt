@@ -1,6 +1,6 @@
 -- `tables::changes` meets its contract.
 use Rattle.rules.specs.Instruction.{changes}
-use mathlib.Core.Path.{_∙_, ap, sym}
+use Rattle.tables.proofs.Looks.{arm}
 use borrow.Author.Needs.{needs}
 use Rattle.tables.proofs.changes.Statement.{statement}
 use Rattle.tables.proofs.changes.Tie as tie
@@ -36,19 +36,19 @@ change-requires-5 : tie.Need-change-requires-5
 change-requires-5 c κs = search needs
 
 returns : tie.Need-returns
-returns c = c .change .ensures ∙ ap changes (sym (c .before .enum-told .given .1))
+returns c = arm changes (c .before .enum-told .given .1) (c .change .ensures)
 
 returns-2 : tie.Need-returns-2
-returns-2 c = c .change2 .ensures ∙ ap changes (sym (c .before .enum-told2 .given .1))
+returns-2 c = arm changes (c .before .enum-told2 .given .1) (c .change2 .ensures)
 
 returns-3 : tie.Need-returns-3
-returns-3 c = c .change3 .ensures ∙ ap changes (sym (c .before .enum-told3 .given .1))
+returns-3 c = arm changes (c .before .enum-told3 .given .1) (c .change3 .ensures)
 
 returns-4 : tie.Need-returns-4
-returns-4 c = c .change4 .ensures ∙ ap changes (sym (c .before .enum-told4 .given .1))
+returns-4 c = arm changes (c .before .enum-told4 .given .1) (c .change4 .ensures)
 
 returns-5 : tie.Need-returns-5
-returns-5 c = c .change5 .ensures ∙ ap changes (sym (c .before .enum-told5 .given .1))
+returns-5 c = arm changes (c .before .enum-told5 .given .1) (c .change5 .ensures)
 
 pub changes-spec : {M : Type 1} → statement M
 changes-spec =

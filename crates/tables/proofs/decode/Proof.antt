@@ -8,31 +8,62 @@ returns : tie.Need-returns
 returns c = decode-rdid (c .before .args .row) (c .before .args .code) (c .if1 .taken)
 
 returns-2 : tie.Need-returns-2
-returns-2 c = decode-wrid (c .before .before .args .row) (c .before .before .args .code) (c .if2 .taken)
+returns-2 c =
+    let start = c .before .before in
+    decode-wrid (start .args .row) (start .args .code) (c .if2 .taken)
 
 plain-requires : tie.Need-plain-requires
 plain-requires c κs = search needs
 
 returns-3 : tie.Need-returns-3
-returns-3 c = decode-plain (c .before .before .before .before .args .row) (c .before .before .before .before .args .code) (c .before .plain .result) _ (c .before .plain .ensures) (c .before .before .before .if1 .left) (c .before .before .if2 .left) (rw (c .match .keys1))
+returns-3 c =
+    let looked = c .before in
+    let start = looked .before .before .before in
+    decode-plain (start .args .row) (start .args .code) (looked .plain .ensures) (looked .before .before .if1 .left) (looked .before .if2 .left)
+    (rw (c .match .keys1))
 
 returns-4 : tie.Need-returns-4
-returns-4 c = decode-plain (c .before .before .before .before .args .row) (c .before .before .before .before .args .code) (c .before .plain .result) _ (c .before .plain .ensures) (c .before .before .before .if1 .left) (c .before .before .if2 .left) (rw (c .match .keys2))
+returns-4 c =
+    let looked = c .before in
+    let start = looked .before .before .before in
+    decode-plain (start .args .row) (start .args .code) (looked .plain .ensures) (looked .before .before .if1 .left) (looked .before .if2 .left)
+    (rw (c .match .keys2))
 
 returns-5 : tie.Need-returns-5
-returns-5 c = decode-plain (c .before .before .before .before .args .row) (c .before .before .before .before .args .code) (c .before .plain .result) _ (c .before .plain .ensures) (c .before .before .before .if1 .left) (c .before .before .if2 .left) (rw (c .match .keys3))
+returns-5 c =
+    let looked = c .before in
+    let start = looked .before .before .before in
+    decode-plain (start .args .row) (start .args .code) (looked .plain .ensures) (looked .before .before .if1 .left) (looked .before .if2 .left)
+    (rw (c .match .keys3))
 
 returns-6 : tie.Need-returns-6
-returns-6 c = decode-plain (c .before .before .before .before .args .row) (c .before .before .before .before .args .code) (c .before .plain .result) _ (c .before .plain .ensures) (c .before .before .before .if1 .left) (c .before .before .if2 .left) (rw (c .match .keys4))
+returns-6 c =
+    let looked = c .before in
+    let start = looked .before .before .before in
+    decode-plain (start .args .row) (start .args .code) (looked .plain .ensures) (looked .before .before .if1 .left) (looked .before .if2 .left)
+    (rw (c .match .keys4))
 
 returns-7 : tie.Need-returns-7
-returns-7 c = decode-plain (c .before .before .before .before .args .row) (c .before .before .before .before .args .code) (c .before .plain .result) _ (c .before .plain .ensures) (c .before .before .before .if1 .left) (c .before .before .if2 .left) (rw (c .match .keys5))
+returns-7 c =
+    let looked = c .before in
+    let start = looked .before .before .before in
+    decode-plain (start .args .row) (start .args .code) (looked .plain .ensures) (looked .before .before .if1 .left) (looked .before .if2 .left)
+    (rw (c .match .keys5))
 
 returns-8 : tie.Need-returns-8
-returns-8 c = decode-plain (c .before .before .before .before .args .row) (c .before .before .before .before .args .code) (c .before .plain .result) _ (c .before .plain .ensures) (c .before .before .before .if1 .left) (c .before .before .if2 .left) (rw (c .match .keys6))
+returns-8 c =
+    let looked = c .before in
+    let start = looked .before .before .before in
+    decode-plain (start .args .row) (start .args .code) (looked .plain .ensures) (looked .before .before .if1 .left) (looked .before .if2 .left)
+    (rw (c .match .keys6))
 
 returns-9 : tie.Need-returns-9
-returns-9 c = decode-plain (c .before .before .before .before .args .row) (c .before .before .before .before .args .code) (c .before .plain .result) _ (c .before .plain .ensures) (c .before .before .before .if1 .left) (c .before .before .if2 .left) (plain-none (c .before .plain .result) (c .match .rest .0 .0 .0 .0 .0 .1) (c .match .rest .0 .0 .0 .0 .1) (c .match .rest .0 .0 .0 .1) (c .match .rest .0 .0 .1) (c .match .rest .0 .1) (c .match .rest .1))
+returns-9 c =
+    let looked = c .before in
+    let start = looked .before .before .before in
+    let none = c .match .rest in
+    decode-plain (start .args .row) (start .args .code) (looked .plain .ensures) (looked .before .before .if1 .left) (looked .before .if2 .left)
+    (plain-none (looked .plain .result) (none .0 .0 .0 .0 .0 .1) (none .0 .0 .0 .0 .1) (none .0 .0 .0 .1) (none .0 .0 .1) (none .0 .1) (none .1))
 
 pub decode-spec : {M : Type 1} → statement M
 decode-spec =

@@ -1,6 +1,6 @@
 -- `tables::facts` meets its contract.
 use Rattle.rules.specs.Instruction.{facts}
-use mathlib.Core.Path.{_∙_, ap, sym}
+use Rattle.tables.proofs.Looks.{arm}
 use borrow.Author.Needs.{needs}
 use Rattle.tables.proofs.facts.Statement.{statement}
 use Rattle.tables.proofs.facts.Tie as tie
@@ -72,37 +72,37 @@ row-requires-11 : tie.Need-row-requires-11
 row-requires-11 c κs = search needs
 
 returns : tie.Need-returns
-returns c = c .row .ensures ∙ ap facts (sym (c .before .enum-told .given .1))
+returns c = arm facts (c .before .enum-told .given .1) (c .row .ensures)
 
 returns-2 : tie.Need-returns-2
-returns-2 c = c .row2 .ensures ∙ ap facts (sym (c .before .enum-told2 .given .1))
+returns-2 c = arm facts (c .before .enum-told2 .given .1) (c .row2 .ensures)
 
 returns-3 : tie.Need-returns-3
-returns-3 c = c .row3 .ensures ∙ ap facts (sym (c .before .enum-told3 .given .1))
+returns-3 c = arm facts (c .before .enum-told3 .given .1) (c .row3 .ensures)
 
 returns-4 : tie.Need-returns-4
-returns-4 c = c .row4 .ensures ∙ ap facts (sym (c .before .enum-told4 .given .1))
+returns-4 c = arm facts (c .before .enum-told4 .given .1) (c .row4 .ensures)
 
 returns-5 : tie.Need-returns-5
-returns-5 c = c .row5 .ensures ∙ ap facts (sym (c .before .enum-told5 .given .1))
+returns-5 c = arm facts (c .before .enum-told5 .given .1) (c .row5 .ensures)
 
 returns-6 : tie.Need-returns-6
-returns-6 c = c .row6 .ensures ∙ ap facts (sym (c .before .enum-told6 .given .1))
+returns-6 c = arm facts (c .before .enum-told6 .given .1) (c .row6 .ensures)
 
 returns-7 : tie.Need-returns-7
-returns-7 c = c .row7 .ensures ∙ ap facts (sym (c .before .enum-told7 .given .1))
+returns-7 c = arm facts (c .before .enum-told7 .given .1) (c .row7 .ensures)
 
 returns-8 : tie.Need-returns-8
-returns-8 c = c .row8 .ensures ∙ ap facts (sym (c .before .enum-told8 .given .1))
+returns-8 c = arm facts (c .before .enum-told8 .given .1) (c .row8 .ensures)
 
 returns-9 : tie.Need-returns-9
-returns-9 c = c .row9 .ensures ∙ ap facts (sym (c .before .enum-told9 .given .1))
+returns-9 c = arm facts (c .before .enum-told9 .given .1) (c .row9 .ensures)
 
 returns-10 : tie.Need-returns-10
-returns-10 c = c .row10 .ensures ∙ ap facts (sym (c .before .enum-told10 .given .1))
+returns-10 c = arm facts (c .before .enum-told10 .given .1) (c .row10 .ensures)
 
 returns-11 : tie.Need-returns-11
-returns-11 c = c .row11 .ensures ∙ ap facts (sym (c .before .enum-told11 .given .1))
+returns-11 c = arm facts (c .before .enum-told11 .given .1) (c .row11 .ensures)
 
 pub facts-spec : {M : Type 1} → statement M
 facts-spec =

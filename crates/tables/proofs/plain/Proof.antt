@@ -8,10 +8,14 @@ without-a8-requires : tie.Need-without-a8-requires
 without-a8-requires c κs = search needs
 
 returns : tie.Need-returns
-returns c = plain-one (c .before .before .before .args .row) (c .before .before .before .args .code) _ (c .before .if1 .taken) (c .without-a8 .ensures)
+returns c =
+    let start = c .before .before .before in
+    plain-one (start .args .row) (start .args .code) (c .before .if1 .taken) (c .without-a8 .ensures)
 
 returns-2 : tie.Need-returns-2
-returns-2 c = plain-more (c .before .before .args .row) (c .before .before .args .code) (c .if1 .left)
+returns-2 c =
+    let start = c .before .before in
+    plain-more (start .args .row) (start .args .code) (c .if1 .left)
 
 pub plain-spec : {M : Type 1} → statement M
 plain-spec = tie.close (tie.spec without-a8-requires returns returns-2)
