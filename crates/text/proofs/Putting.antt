@@ -17,9 +17,9 @@ use Rattle.rules.specs.Program.{digit, decimalIn, decimal, shown, line, lines, 
 use Rattle.text.specs.Put.{Put}
 
 -- A text that was copied into the part from a place on was put there.
-pub copied : (text out part post : List ℕ) (at r : ℕ) → at + length text ≤ length out → (rest : List ℕ) → part ≡ take (length text) text ++ rest → r ≡ length text
+pub copied : {text out part : List ℕ} {at r : ℕ} (post rest : List ℕ) → at + length text ≤ length out → part ≡ take (length text) text ++ rest → r ≡ length text
     → length (take at out ++ (part ++ post)) ≡ length out → Put out at text (take at out ++ (part ++ post)) (at + r)
-copied text out part post at r fits rest ep er el =
+copied {text} {out} {part} {at} {r} post rest fits ep er el =
     let front : length (take at out) ≡ at = length-take-le at out (omega arith) in
     let whole : part ≡ text ++ rest = ep ∙ ap (λ (l : List ℕ). l ++ rest) (take-length text) in
     record {
@@ -27,7 +27,9 @@ copied text out part post at r fits rest ep er el =
       long = el;
       stands =
           subst (λ (m : ℕ). take (m + r) (take at out ++ (part ++ post)) ≡ take at out ++ text) front
-          (take-append-add (take at out) (part ++ post) r ∙ ap (λ (l : List ℕ). take at out ++ l) (rw (whole, er, append-assoc text rest post, take-append-le (length text) text (rest ++ post) (omega arith), take-length text)));
+          (take-append-add (take at out) (part ++ post) r
+          ∙ ap (λ (l : List ℕ). take at out ++ l)
+          (rw (whole, er, append-assoc text rest post, take-append-le (length text) text (rest ++ post) (omega arith), take-length text)));
     }
 
 -- A text that is equal to another.
@@ -114,7 +116,11 @@ lines-more m (a ∷ done) answer =
 pub lines-at : (answers : List ℕ) (i : ℕ) → i < length answers → lines 1 (take i answers) ++ line (i + 1) (getD answers i 0) ≡ lines 1 (take (i + 1) answers)
 lines-at answers i h =
     let e : 1 + length (take i answers) ≡ i + 1 = rw (length-take-le i answers (omega arith)) (omega arith) in
-    sym (ap (λ (k : ℕ). lines 1 (take k answers)) (add-one i) ∙ ap (lines 1) (take-suc answers i 0 h) ∙ lines-more 1 (take i answers) (getD answers i 0) ∙ ap (λ (k : ℕ). lines 1 (take i answers) ++ line k (getD answers i 0)) e)
+    let answer = getD answers i 0 in
+    sym
+    (ap (λ (k : ℕ). lines 1 (take k answers)) (add-one i) ∙ ap (lines 1) (take-suc answers i 0 h)
+    ∙ lines-more 1 (take i answers) answer
+    ∙ ap (λ (k : ℕ). lines 1 (take i answers) ++ line k answer) e)
 
 pub line-short : (n answer : ℕ) → length (line n answer) ≤ 23
 line-short n answer = rw (length-append (decimal n) (32 ∷ shown answer ∷ 10 ∷ [])) (omega (arith, decimal-short n))
@@ -132,8 +138,8 @@ ending-short number status =
 pub none : (out : List ℕ) (at : ℕ) → Put out at [] out at
 none out at = record { place = omega arith; long = refl; stands = sym (append-nil (take at out)) }
 
-pub line-put : {a b c : List ℕ} {i j k : ℕ} (n answer d : ℕ) → d ≡ shown answer → Put a i (decimal n) b j → Put b j (32 ∷ d ∷ 10 ∷ []) c k → Put a i (line n answer) c k
-line-put n answer d e p q = same-text (ap (λ (m : ℕ). decimal n ++ (32 ∷ m ∷ 10 ∷ [])) e) (joined p q)
+pub line-put : {a b c : List ℕ} {i j k d : ℕ} (n answer : ℕ) → d ≡ shown answer → Put a i (decimal n) b j → Put b j (32 ∷ d ∷ 10 ∷ []) c k → Put a i (line n answer) c k
+line-put n answer e p q = same-text (ap (λ (m : ℕ). decimal n ++ (32 ∷ m ∷ 10 ∷ [])) e) (joined p q)
 
 pub lines-put : {a b c : List ℕ} {i j k n : ℕ} (answers : List ℕ) (done : ℕ) → done < length answers → Put a i (lines 1 (take done answers)) b j → Put b j (line n (getD answers done 0)) c k
     → n ≡ done + 1 → Put a i (lines 1 (take (done + 1) answers)) c k

@@ -23,7 +23,10 @@ same-length : tie.Need-same-length
 same-length c = search needs
 
 returns : tie.Need-returns
-returns c = copied (c .before .before .before .before .before .before .args .text .now) (c .before .before .before .before .before .before .args .out .now) _ _ (c .before .before .before .before .before .before .args .at) (c .before .before .copy .result) (c .before .before .before .before .before .before .pre) _ (c .before .before .copy .ensures .1) (c .before .before .copy .ensures .0) (same-length c)
+returns c =
+    let start = c .before .before .before .before .before .before in
+    let copy = c .before .before .copy in
+    copied _ _ (start .pre) (copy .ensures .1) (copy .ensures .0) (same-length c)
 
 pub put-spec : {M : Type 1} → statement M
 put-spec =

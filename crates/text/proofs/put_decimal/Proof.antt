@@ -1,11 +1,10 @@
 -- `text::put_decimal` meets its contract.
 use native.Mathlib.Omega.{arith}
-use mathlib.Core.Path.{_∙_, ap, subst}
+use mathlib.Core.Path.{_∙_, ap}
 use Prim.Native.Nat.{ℕ}
 use mathlib.Core.List.{List}
 use lib.ListN.{length}
-use Rattle.text.specs.Put.{Put}
-use Rattle.text.proofs.Putting.{decimal-fewest, decimal-short}
+use Rattle.text.proofs.Putting.{decimal-fewest, decimal-short, same-text}
 use borrow.Author.Needs.{needs}
 use Rattle.text.proofs.put_decimal.Statement.{statement}
 use Rattle.text.proofs.put_decimal.Tie as tie
@@ -20,13 +19,24 @@ slice-aggregate-put : tie.Need-slice-aggregate-put
 slice-aggregate-put c = search needs
 
 put-requires : tie.Need-put-requires
-put-requires c κs = omega (arith, c .before .before .before .before .before .pre, decimal-short (c .before .before .before .before .before .args .n), ap (λ (l : List ℕ). length l) (c .before .before .decimal .ensures .1 .1 ∙ decimal-fewest (c .before .before .decimal .result) (c .before .before .before .before .before .args .n) (omega arith) (c .before .before .decimal .ensures .1 .0)))
+put-requires c κs =
+    let at-decimal = c .before .before in
+    let start = at-decimal .before .before .before in
+    let told = at-decimal .decimal .ensures .1 in
+    let n = start .args .n in
+    omega
+    (arith, start .pre, decimal-short n, ap (λ (l : List ℕ). length l) (told .1 ∙ decimal-fewest (at-decimal .decimal .result) n (omega arith) (told .0)))
 
 same-length : tie.Need-same-length
 same-length c = search needs
 
 returns : tie.Need-returns
-returns c = subst (λ (t : List ℕ). Put (c .before .before .before .before .before .before .before .before .args .out .now) (c .before .before .before .before .before .before .before .before .args .at) t (c .before .before .put .last .1 .0) (c .before .before .put .result)) (c .before .before .before .before .before .decimal .ensures .1 .1 ∙ decimal-fewest (c .before .before .before .before .before .decimal .result) (c .before .before .before .before .before .before .before .before .args .n) (omega arith) (c .before .before .before .before .before .decimal .ensures .1 .0)) (c .before .before .put .ensures)
+returns c =
+    let put = c .before .before .put in
+    let at-decimal = c .before .before .before .before .before in
+    let start = at-decimal .before .before .before in
+    let told = at-decimal .decimal .ensures .1 in
+    same-text (told .1 ∙ decimal-fewest (at-decimal .decimal .result) (start .args .n) (omega arith) (told .0)) (put .ensures)
 
 pub put-decimal-spec : {M : Type 1} → statement M
 put-decimal-spec =

@@ -18,16 +18,47 @@ slice-aggregate-put-2 : tie.Need-slice-aggregate-put-2
 slice-aggregate-put-2 c = search needs
 
 put-requires-2 : tie.Need-put-requires-2
-put-requires-2 c κs = omega (arith, c .before .before .before .before .before .before .before .before .before .before .before .before .before .pre, decimal-short (c .before .before .before .before .before .before .before .before .before .before .before .before .before .args .number), c .before .before .before .before .before .before .before .before .put .ensures .place, c .before .before .before .before .before .before .before .before .put .ensures .long, c .before .before .before .before .put-decimal .ensures .place, c .before .before .before .before .put-decimal .ensures .long)
+put-requires-2 c κs =
+    let numbered = c .before .before .before .before in
+    let named = numbered .before .before .before .before in
+    let start = named .before .before .before .before .before in
+    omega (
+      arith,
+      start .pre,
+      decimal-short (start .args .number),
+      named .put .ensures .place,
+      named .put .ensures .long,
+      numbered .put-decimal .ensures .place,
+      numbered .put-decimal .ensures .long,
+    )
 
 put-requires-3 : tie.Need-put-requires-3
-put-requires-3 c κs = omega (arith, c .before .before .before .before .before .before .before .before .before .before .before .before .before .before .before .before .before .pre, decimal-short (c .before .before .before .before .before .before .before .before .before .before .before .before .before .before .before .before .before .args .number), c .before .before .before .before .before .before .before .before .before .before .before .before .put .ensures .place, c .before .before .before .before .before .before .before .before .before .before .before .before .put .ensures .long, c .before .before .before .before .before .before .before .before .put-decimal .ensures .place, c .before .before .before .before .before .before .before .before .put-decimal .ensures .long, c .before .before .before .put2 .ensures .place, c .before .before .before .put2 .ensures .long)
+put-requires-3 c κs =
+    let spaced = c .before .before .before in
+    let numbered = spaced .before .before .before .before .before in
+    let named = numbered .before .before .before .before in
+    let start = named .before .before .before .before .before in
+    omega (
+      arith,
+      start .pre,
+      decimal-short (start .args .number),
+      named .put .ensures .place,
+      named .put .ensures .long,
+      numbered .put-decimal .ensures .place,
+      numbered .put-decimal .ensures .long,
+      spaced .put2 .ensures .place,
+      spaced .put2 .ensures .long,
+    )
 
 same-length : tie.Need-same-length
 same-length c = search needs
 
 returns : tie.Need-returns
-returns c = joined (joined (joined (c .before .before .before .before .before .before .before .before .before .before .before .before .before .before .before .put .ensures) (c .before .before .before .before .before .before .before .before .before .before .before .put-decimal .ensures)) (c .before .before .before .before .before .before .put2 .ensures)) (c .before .before .put3 .ensures)
+returns c =
+    let spaced = c .before .before .before .before .before .before in
+    let numbered = spaced .before .before .before .before .before in
+    let named = numbered .before .before .before .before in
+    joined (joined (joined (named .put .ensures) (numbered .put-decimal .ensures)) (spaced .put2 .ensures)) (c .before .before .put3 .ensures)
 
 pub put-ending-spec : {M : Type 1} → statement M
 put-ending-spec =

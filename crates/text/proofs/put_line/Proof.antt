@@ -15,13 +15,20 @@ slice-aggregate-put : tie.Need-slice-aggregate-put
 slice-aggregate-put c = search needs
 
 put-requires : tie.Need-put-requires
-put-requires c κs = omega (arith, c .before .before .before .before .before .before .before .before .pre, decimal-short (c .before .before .before .before .before .before .before .before .args .number), c .before .before .before .before .before .put-decimal .ensures .place, c .before .before .before .before .before .put-decimal .ensures .long)
+put-requires c κs =
+    let numbered = c .before .before .before .before .before in
+    let start = numbered .before .before .before in
+    omega (arith, start .pre, decimal-short (start .args .number), numbered .put-decimal .ensures .place, numbered .put-decimal .ensures .long)
 
 same-length : tie.Need-same-length
 same-length c = search needs
 
 returns : tie.Need-returns
-returns c = line-put (c .before .before .before .before .before .before .before .before .before .before .before .args .number) (c .before .before .before .before .before .before .before .before .before .before .before .args .answer) _ (c .before .before .before .before .before .shown .ensures) (c .before .before .before .before .before .before .before .before .put-decimal .ensures) (c .before .before .put .ensures)
+returns c =
+    let at-shown = c .before .before .before .before .before in
+    let numbered = at-shown .before .before .before in
+    let start = numbered .before .before .before in
+    line-put (start .args .number) (start .args .answer) (at-shown .shown .ensures) (numbered .put-decimal .ensures) (c .before .before .put .ensures)
 
 pub put-line-spec : {M : Type 1} → statement M
 put-line-spec =

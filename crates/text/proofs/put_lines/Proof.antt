@@ -17,7 +17,9 @@ abbrev μ-loop : tie.MeasureT-loop
 μ-loop answers out₀ at place₀ i₀ i-end out place i = length answers - i
 
 loop-holds : tie.Need-loop-holds Inv-loop μ-loop
-loop-holds c = (refl, omega arith, none (c .before .before .args .out .now) (c .before .before .args .at))
+loop-holds c =
+    let start = c .before .before in
+    (refl, omega arith, none (start .args .out .now) (start .args .at))
 
 add-put-line : tie.Need-add-put-line Inv-loop μ-loop
 add-put-line c = omega arith
@@ -26,7 +28,18 @@ shared-slice-read-put-line : tie.Need-shared-slice-read-put-line Inv-loop μ-loo
 shared-slice-read-put-line c = omega arith
 
 put-line-requires : tie.Need-put-line-requires Inv-loop μ-loop
-put-line-requires c κs = omega (arith, c .before .before .before .before .before .before .pre, c .before .before .before .loop .inv .2 .place, c .before .before .before .loop .inv .2 .long, lines-short 1 (take (c .before .before .before .loop .i) (c .before .before .before .before .before .before .args .answers .now)), length-take-le (c .before .before .before .loop .i) (c .before .before .before .before .before .before .args .answers .now) (c .before .before .before .loop .inv .1))
+put-line-requires c κs =
+    let head = c .before .before .before in
+    let start = head .before .before .before in
+    let answers = start .args .answers .now in
+    omega (
+      arith,
+      start .pre,
+      head .loop .inv .2 .place,
+      head .loop .inv .2 .long,
+      lines-short 1 (take (head .loop .i) answers),
+      length-take-le (head .loop .i) answers (head .loop .inv .1),
+    )
 
 add-i : tie.Need-add-i Inv-loop μ-loop
 add-i c = omega arith
@@ -35,13 +48,18 @@ loop-less : tie.Need-loop-less Inv-loop μ-loop
 loop-less c = omega arith
 
 loop-again : tie.Need-loop-again Inv-loop μ-loop
-loop-again c = (c .before .before .before .before .before .before .loop .inv .0, omega arith, lines-put (c .before .before .before .before .before .before .before .before .before .args .answers .now) (c .before .before .before .before .before .before .loop .i) (omega arith) (c .before .before .before .before .before .before .loop .inv .2) (c .before .before .put-line .ensures) (omega arith))
+loop-again c =
+    let head = c .before .before .before .before .before .before in
+    let start = head .before .before .before in
+    (head .loop .inv .0, omega arith, lines-put (start .args .answers .now) (head .loop .i) (omega arith) (head .loop .inv .2) (c .before .before .put-line .ensures) (omega arith))
 
 same-length : tie.Need-same-length Inv-loop μ-loop
 same-length c = c .before .loop .inv .2 .long
 
 returns : tie.Need-returns Inv-loop μ-loop
-returns c = all-put (c .before .before .before .before .args .answers .now) (c .before .loop .i) (omega arith) (c .before .loop .inv .2)
+returns c =
+    let start = c .before .before .before .before in
+    all-put (start .args .answers .now) (c .before .loop .i) (omega arith) (c .before .loop .inv .2)
 
 pub put-lines-spec : {M : Type 1} → statement M
 put-lines-spec =

@@ -10,7 +10,9 @@ returns-2 : tie.Need-returns-2
 returns-2 c = rw (ne-eqb (c .before .before .args .answer) 0 (c .before .if1 .left), c .if2 .taken)
 
 returns-3 : tie.Need-returns-3
-returns-3 c = rw (ne-eqb (c .before .before .args .answer) 0 (c .before .if1 .left), ne-eqb (c .before .before .args .answer) 1 (c .if2 .left))
+returns-3 c =
+    let start = c .before .before in
+    rw (ne-eqb (start .args .answer) 0 (c .before .if1 .left), ne-eqb (start .args .answer) 1 (c .if2 .left))
 
 pub shown-spec : {M : Type 1} → statement M
 shown-spec = tie.close (tie.spec returns returns-2 returns-3)
