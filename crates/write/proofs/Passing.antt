@@ -14,18 +14,20 @@ use Rattle.rules.specs.Instruction.{changes}
 use Rattle.rules.specs.Cycle.{written, ends, waitedState, waited}
 use Rattle.rules.proofs.Choice.{and-right}
 
-module _ (s : State) (n : ℕ) (c : Change) (ec : c ≡ changes (s .cycle .kind)) where
+module _ (s : State) (n : ℕ) {c : Change} (ec : c ≡ changes (s .cycle .kind)) where
   pub ends-at : (b : Bool) → (c .runs && leb (s .place .left) n) ≡ b → ends n s ≡ b
   ends-at b h = ap (λ (x : Change). x .runs && leb (s .place .left) n) (sym ec) ∙ h
 
-  pub wait-goes : (left : ℕ) → left ≡ s .place .left - n → not (c .runs && leb (s .place .left) n) ≡ true → withStored (s .registers) (s .cycle) (s .place .start) left s ≡ waitedState n s
+  pub wait-goes : {left : ℕ} → left ≡ s .place .left - n → not (c .runs && leb (s .place .left) n) ≡ true → withStored (s .registers) (s .cycle) (s .place .start) left s ≡ waitedState n s
   unfolding waitedState
-  wait-goes left el h = rw (ends-at false (not-true _ h), and-true (s .registers .wel), or-false (s .registers .locked), el)
+  wait-goes el h = rw (ends-at false (not-true _ h), and-true (s .registers .wel), or-false (s .registers .locked), el)
 
-  pub wait-ends : (left status : ℕ) → left ≡ s .place .left - n → status ≡ (if c .status then s .cycle .next else s .registers .status) → not (c .runs && leb (s .place .left) n) ≡ false
-      → withStored (record { status = status; wel = false; locked = s .registers .locked || c .lock }) (record { kind = Kind.None; next = s .cycle .next }) (s .place .start) left s ≡ waitedState n s
+  pub wait-ends : {left status : ℕ} → left ≡ s .place .left - n → status ≡ (if c .status then s .cycle .next else s .registers .status)
+      → not (c .runs && leb (s .place .left) n) ≡ false
+      → withStored (record { status = status; wel = false; locked = s .registers .locked || c .lock }) (record { kind = Kind.None; next = s .cycle .next })
+      (s .place .start) left s ≡ waitedState n s
   unfolding waitedState
-  wait-ends left status el es h = rw (ends-at true (not-false _ h), and-false (s .registers .wel), es, ec, el)
+  wait-ends el es h = rw (ends-at true (not-false _ h), and-false (s .registers .wel), es, ec, el)
 
 -- No cycle writes to both.
 one-list : (k : Kind) → changes k .cells ≡ true → changes k .identification ≡ false

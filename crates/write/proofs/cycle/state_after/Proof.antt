@@ -11,13 +11,22 @@ less-requires : tie.Need-less-requires
 less-requires c κs = search needs
 
 returns : tie.Need-returns
-returns c = wait-goes (c .before .before .before .before .before .before .before .args .s) (c .before .before .before .before .before .before .before .args .wait) (c .before .before .before .before .before .changes .result) (c .before .before .before .before .before .changes .ensures) (c .before .before .before .before .less .result) (c .before .before .before .before .less .ensures) (c .if1 .taken)
+returns c =
+    let at-less = c .before .before .before .before in
+    let at-changes = at-less .before in
+    let start = at-changes .before .before in
+    wait-goes (start .args .s) (start .args .wait) (at-changes .changes .ensures) (at-less .less .ensures) (c .if1 .taken)
 
 status-after-requires : tie.Need-status-after-requires
 status-after-requires c κs = search needs
 
 returns-2 : tie.Need-returns-2
-returns-2 c = wait-ends (c .before .before .before .before .before .before .before .before .before .before .args .s) (c .before .before .before .before .before .before .before .before .before .before .args .wait) (c .before .before .before .before .before .before .before .before .changes .result) (c .before .before .before .before .before .before .before .before .changes .ensures) (c .before .before .before .before .before .before .before .less .result) (c .status-after .result) (c .before .before .before .before .before .before .before .less .ensures) (c .status-after .ensures) (c .before .before .before .if1 .left)
+returns-2 c =
+    let at-less = c .before .before .before .before .before .before .before in
+    let at-changes = at-less .before in
+    let start = at-changes .before .before in
+    wait-ends (start .args .s) (start .args .wait) (at-changes .changes .ensures) (at-less .less .ensures) (c .status-after .ensures)
+    (c .before .before .before .if1 .left)
 
 pub state-after-spec : {M : Type 1} → statement M
 state-after-spec =

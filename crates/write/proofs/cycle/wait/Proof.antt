@@ -23,11 +23,12 @@ same-length c = search needs
 
 returns : tie.Need-returns
 returns c =
-    let at-if1 = c .before .before .before .before in
-    let at-state-after = at-if1 .before .before in
-    let at-changes = at-state-after .before .before .before in
+    let to-cells = c .before .before .before .before in
+    let after = to-cells .before .before in
+    let at-changes = after .before .before .before in
     let start = at-changes .before .before .before .before .before in
-    wait-cells (start .args .row) (start .args .s) (at-state-after .state-after .result) (start .args .wait) _ _ _ (at-changes .changes .result) (at-changes .changes .ensures) (at-state-after .state-after .ensures) _ (at-if1 .if1 .taken) (c .before .before .write-marked .ensures)
+    wait-cells (start .args .row) (start .args .s) (after .state-after .result) (start .args .wait) _ _ _ (at-changes .changes .result)
+    (at-changes .changes .ensures) (after .state-after .ensures) _ (to-cells .if1 .taken) (c .before .before .write-marked .ensures)
 
 write-marked-requires-2 : tie.Need-write-marked-requires-2
 write-marked-requires-2 c κs =
@@ -39,19 +40,21 @@ same-length-2 c = search needs
 
 returns-2 : tie.Need-returns-2
 returns-2 c =
-    let at-if2 = c .before .before .before .before in
-    let at-if1 = at-if2 .before .before in
-    let at-state-after = at-if1 .before .before in
-    let at-changes = at-state-after .before .before .before in
+    let to-page = c .before .before .before .before in
+    let to-cells = to-page .before .before in
+    let after = to-cells .before .before in
+    let at-changes = after .before .before .before in
     let start = at-changes .before .before .before .before .before in
-    wait-page (start .args .row) (start .args .s) (at-state-after .state-after .result) (start .args .wait) _ _ _ (at-changes .changes .result) (at-changes .changes .ensures) (at-state-after .state-after .ensures) _ (at-if1 .if1 .left) (at-if2 .if2 .taken) (c .before .before .write-marked2 .ensures)
+    wait-page (start .args .row) (start .args .s) (after .state-after .result) (start .args .wait) _ _ _ (at-changes .changes .result) (at-changes .changes .ensures)
+    (after .state-after .ensures) _ (to-cells .if1 .left) (to-page .if2 .taken) (c .before .before .write-marked2 .ensures)
 
 returns-3 : tie.Need-returns-3
 returns-3 c =
-    let at-state-after = c .before .before .before .before in
-    let at-changes = at-state-after .before .before .before in
+    let after = c .before .before .before .before in
+    let at-changes = after .before .before .before in
     let start = at-changes .before .before .before .before .before in
-    wait-none (start .args .row) (start .args .s) (at-state-after .state-after .result) (start .args .wait) _ _ _ (at-changes .changes .result) (at-changes .changes .ensures) (at-state-after .state-after .ensures) (c .before .before .if1 .left) (c .if2 .left)
+    wait-none (start .args .row) (start .args .s) (after .state-after .result) (start .args .wait) _ _ _ (at-changes .changes .result) (at-changes .changes .ensures)
+    (after .state-after .ensures) (c .before .before .if1 .left) (c .if2 .left)
 
 pub wait-spec : {M : Type 1} → statement M
 wait-spec =

@@ -1,7 +1,7 @@
 -- `write::judge::allows` meets its contract.
 use Rattle.rules.specs.Judge.{allows}
 use mathlib.Core.Path.{refl}
-use Rattle.write.proofs.Deciding.{allows-by}
+use Rattle.tables.proofs.Looks.{arm}
 use borrow.Author.Needs.{needs}
 use Rattle.write.proofs.judge.allows.Statement.{statement}
 use Rattle.write.proofs.judge.allows.Tie as tie
@@ -53,23 +53,33 @@ bit-of-requires-2 c κs = search needs
 
 returns : tie.Need-returns
 unfolding allows
-returns c = allows-by (c .before .before .before .before .before .args .row) (c .before .before .before .before .before .args .s) (c .before .before .before .before .before .args .kind) _ _ (c .enum-told .given .1) refl
+returns c =
+    let start = c .before .before .before .before .before in
+    arm (allows (start .args .row) (start .args .s)) (c .enum-told .given .1) refl
 
 returns-2 : tie.Need-returns-2
 unfolding allows
-returns-2 c = allows-by (c .before .before .before .before .before .before .before .args .row) (c .before .before .before .before .before .before .before .args .s) (c .before .before .before .before .before .before .before .args .kind) _ _ (c .before .before .enum-told2 .given .1) (rw (c .before .bit-of .ensures))
+returns-2 c =
+    let start = c .before .before .before .before .before .before .before in
+    arm (allows (start .args .row) (start .args .s)) (c .before .before .enum-told2 .given .1) (rw (c .before .bit-of .ensures))
 
 returns-3 : tie.Need-returns-3
 unfolding allows
-returns-3 c = allows-by (c .before .before .before .before .before .before .before .before .args .row) (c .before .before .before .before .before .before .before .before .args .s) (c .before .before .before .before .before .before .before .before .args .kind) _ _ (c .before .before .before .enum-told3 .given .1) (rw (c .is-protected .ensures, c .before .blocks2 .ensures))
+returns-3 c =
+    let start = c .before .before .before .before .before .before .before .before in
+    arm (allows (start .args .row) (start .args .s)) (c .before .before .before .enum-told3 .given .1) (rw (c .is-protected .ensures, c .before .blocks2 .ensures))
 
 returns-4 : tie.Need-returns-4
 unfolding allows
-returns-4 c = allows-by (c .before .before .before .before .before .before .before .args .row) (c .before .before .before .before .before .before .before .args .s) (c .before .before .before .before .before .before .before .args .kind) _ _ (c .before .before .enum-told4 .given .1) (rw (c .is-shut .ensures))
+returns-4 c =
+    let start = c .before .before .before .before .before .before .before in
+    arm (allows (start .args .row) (start .args .s)) (c .before .before .enum-told4 .given .1) (rw (c .is-shut .ensures))
 
 returns-5 : tie.Need-returns-5
 unfolding allows
-returns-5 c = allows-by (c .before .before .before .before .before .before .before .before .args .row) (c .before .before .before .before .before .before .before .before .args .s) (c .before .before .before .before .before .before .before .before .args .kind) _ _ (c .before .before .before .enum-told5 .given .1) (rw (c .before .is-shut2 .ensures, c .bit-of2 .ensures))
+returns-5 c =
+    let start = c .before .before .before .before .before .before .before .before in
+    arm (allows (start .args .row) (start .args .s)) (c .before .before .before .enum-told5 .given .1) (rw (c .before .is-shut2 .ensures, c .bit-of2 .ensures))
 
 pub allows-spec : {M : Type 1} → statement M
 allows-spec =

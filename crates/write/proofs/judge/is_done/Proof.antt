@@ -12,7 +12,9 @@ allows-requires c κs = search needs
 
 returns : tie.Need-returns
 unfolding isDone isWhole
-returns c = rw (c .allows .ensures, c .before .before .before .before .facts .ensures)
+returns c =
+    let facts = c .before .before .before .before .facts in
+    rw (c .allows .ensures, facts .ensures)
 
 pub is-done-spec : {M : Type 1} → statement M
 is-done-spec = tie.close (tie.spec facts-requires allows-requires returns)
