@@ -16,6 +16,7 @@ use Rattle.rules.specs.declared.Output.{Output}
 use Rattle.rules.specs.declared.State.{State}
 use Rattle.rules.specs.World.{number, withSelection}
 use Rattle.rules.specs.Instruction.{commandBytes}
+use Rattle.tables.proofs.Looks.{arm}
 use Rattle.rules.specs.Send.{byteOf, going, sourceOf, isSending, shownAddress, outputOf, outputAfter, fallen}
 
 pub page-inside : (row : Row) (a : ℕ) → a < row .page → record { sends = true; after = a + 1; past = false } ≡ going row Source.Identification a
@@ -25,16 +26,17 @@ pub page-past : (row : Row) (a : ℕ) → row .page ≤ a → record { sends = t
 page-past row a h = rw (min-eq-right {n = row .page} {m = a + 1} (omega arith), le-leb (row .page) a h)
 
 module _ (row : Row) (s : State) where
-  pub shown-next : (n : ℕ) (t : Source) (g : Going) → n ≡ commandBytes row (s .command .instruction) → (eqb (s .input .bits) 0 && not (eqb (s .input .bytes) n)) ≡ true
+  pub shown-next : {n : ℕ} {t : Source} {g : Going} → n ≡ commandBytes row (s .command .instruction) → (eqb (s .input .bits) 0 && not (eqb (s .input .bytes) n)) ≡ true
       → t ≡ sourceOf s → g ≡ going row t (s .place .address) → g .after ≡ shownAddress row s
   unfolding shownAddress
-  shown-next n t g en h et eg = rw (eg, et, ← en, h)
+  shown-next en h et eg = rw (eg, et, ← en, h)
 
-  pub shown-same : (n : ℕ) → n ≡ commandBytes row (s .command .instruction) → (eqb (s .input .bits) 0 && not (eqb (s .input .bytes) n)) ≡ false → s .place .address ≡ shownAddress row s
+  pub shown-same : {n : ℕ} → n ≡ commandBytes row (s .command .instruction) → (eqb (s .input .bits) 0 && not (eqb (s .input .bytes) n)) ≡ false
+      → s .place .address ≡ shownAddress row s
   unfolding shownAddress
-  shown-same n en h = rw (← en, h)
+  shown-same en h = rw (← en, h)
 
-module _ (row : Row) (s : State) (cells identification : List ℕ) (a : ℕ) (t : Source) (g : Going) (et : t ≡ sourceOf s) (eg : g ≡ going row t a) where
+module _ (row : Row) (s : State) (cells identification : List ℕ) (a : ℕ) {t : Source} {g : Going} (et : t ≡ sourceOf s) (eg : g ≡ going row t a) where
   known : (b : Bool) → g .past ≡ b → going row (sourceOf s) a .past ≡ b
   known b h = ap (λ (x : Source). going row x a .past) (sym et) ∙ ap (λ (x : Going). x .past) (sym eg) ∙ h
 
@@ -42,37 +44,40 @@ module _ (row : Row) (s : State) (cells identification : List ℕ) (a : ℕ) (t 
   unfolding outputAfter
   output-past h = rw (known true h)
 
-  pub output-byte : (b : ℕ) (o : Output) → g .past ≡ false → s .input .bits ≡ 0 → b ≡ byteOf s cells identification t a → o ≡ outputOf b 0 → o ≡ outputAfter row s cells identification a
+  pub output-byte : {b : ℕ} {o : Output} → g .past ≡ false → s .input .bits ≡ 0 → b ≡ byteOf s cells identification t a → o ≡ outputOf b 0
+      → o ≡ outputAfter row s cells identification a
   unfolding outputAfter
-  output-byte b o h z eb eo = rw (known false h, eq-eqb (s .input .bits) 0 z, eo, eb, et)
+  output-byte h z eb eo = rw (known false h, eq-eqb (s .input .bits) 0 z, eo, eb, et)
 
-  pub output-bit : (o : Output) → g .past ≡ false → (s .input .bits ≡ 0 → ⊥) → o ≡ outputOf (s .output .sending) (s .input .bits) → o ≡ outputAfter row s cells identification a
+  pub output-bit : {o : Output} → g .past ≡ false → (s .input .bits ≡ 0 → ⊥) → o ≡ outputOf (s .output .sending) (s .input .bits)
+      → o ≡ outputAfter row s cells identification a
   unfolding outputAfter
-  output-bit o h z eo = rw (known false h, ne-eqb (s .input .bits) 0 z, eo)
+  output-bit h z eo = rw (known false h, ne-eqb (s .input .bits) 0 z, eo)
 
-module _ (row : Row) (s : State) (cells identification : List ℕ) (d sending : Bool) (es : sending ≡ isSending row s) where
-  pub fall-shows : (a : ℕ) (o : Output) → (d && sending) ≡ true → a ≡ shownAddress row s → o ≡ outputAfter row s cells identification a
+module _ (row : Row) (s : State) (cells identification : List ℕ) (d : Bool) {sending : Bool} (es : sending ≡ isSending row s) where
+  pub fall-shows : {a : ℕ} {o : Output} → (d && sending) ≡ true → a ≡ shownAddress row s → o ≡ outputAfter row s cells identification a
       → withSelection a (s .selection) (s .input) (s .command) o s ≡ fallen row d s cells identification
   unfolding fallen
-  fall-shows a o h ea eo = rw (← es, h, eo, ea)
+  fall-shows h ea eo = rw (← es, h, eo, ea)
 
   pub fall-still : (d && sending) ≡ false → s ≡ fallen row d s cells identification
   unfolding fallen
   fall-still h = rw (← es, h)
 
-pub not-past : (row : Row) (a : ℕ) (t : Source) (g : Going) → g ≡ going row t a → g .past ≡ false → going row t a .past ≡ false
-not-past row a t g eg h = ap (λ (x : Going). x .past) (sym eg) ∙ h
+pub not-past : (row : Row) (a : ℕ) (t : Source) {g : Going} → g ≡ going row t a → g .past ≡ false → going row t a .past ≡ false
+not-past row a t eg h = ap (λ (x : Going). x .past) (sym eg) ∙ h
 
 pub byte-number : (b : Bool) → boolByte b ≡ number b
 byte-number true = refl
 byte-number false = refl
 
 -- Which arm a source is taken by.
-pub byte-by : (s : State) (cells identification : List ℕ) (a : ℕ) (t u : Source) (b : ℕ) → t ≡ u → b ≡ byteOf s cells identification u a → b ≡ byteOf s cells identification t a
-byte-by s cells identification a t u b e f = f ∙ ap (λ (x : Source). byteOf s cells identification x a) (sym e)
+pub byte-by : (s : State) (cells identification : List ℕ) (a : ℕ) {t u : Source} {b : ℕ} → t ≡ u → b ≡ byteOf s cells identification u a
+    → b ≡ byteOf s cells identification t a
+byte-by s cells identification a e f = arm (λ (x : Source). byteOf s cells identification x a) e f
 
-pub going-by : (row : Row) (a : ℕ) (t u : Source) (g : Going) → t ≡ u → g ≡ going row u a → g ≡ going row t a
-going-by row a t u g e f = f ∙ ap (λ (x : Source). going row x a) (sym e)
+pub going-by : (row : Row) (a : ℕ) {t u : Source} {g : Going} → t ≡ u → g ≡ going row u a → g ≡ going row t a
+going-by row a e f = arm (λ (x : Source). going row x a) e f
 
-pub inside-page : (row : Row) (a : ℕ) (t : Source) → t ≡ Source.Identification → going row t a .past ≡ false → a < row .page
-inside-page row a t e h = leb-false (row .page) a (ap (λ (x : Source). going row x a .past) (sym e) ∙ h)
+pub inside-page : (row : Row) (a : ℕ) {t : Source} → t ≡ Source.Identification → going row t a .past ≡ false → a < row .page
+inside-page row a e h = leb-false (row .page) a (ap (λ (x : Source). going row x a .past) (sym e) ∙ h)

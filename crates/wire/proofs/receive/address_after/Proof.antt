@@ -11,7 +11,9 @@ start-address-requires : tie.Need-start-address-requires
 start-address-requires c κs = search needs
 
 returns : tie.Need-returns
-returns c = code-address (c .before .before .before .before .args .row) (c .before .before .before .before .args .byte) (c .before .before .before .before .args .s) (c .before .decode .result) _ (c .before .before .if1 .taken) (c .before .decode .ensures) (c .start-address .ensures)
+returns c =
+    let start = c .before .before .before .before in
+    code-address (start .args .row) (start .args .byte) (start .args .s) (c .before .before .if1 .taken) (c .before .decode .ensures) (c .start-address .ensures)
 
 is-last-requires : tie.Need-is-last-requires
 is-last-requires c κs = search needs
@@ -23,7 +25,11 @@ place-requires : tie.Need-place-requires
 place-requires c κs = search needs
 
 returns-2 : tie.Need-returns-2
-returns-2 c = last-address (c .before .before .before .before .before .before .args .row) (c .before .before .before .before .before .before .args .byte) (c .before .before .before .before .before .before .args .s) (c .before .before .before .before .if1 .left) (c .before .before .before .is-last .result) (c .before .before .before .is-last .ensures) _ (c .before .with-byte .result) (c .before .before .if2 .taken) (c .before .with-byte .ensures) (c .place .ensures)
+returns-2 c =
+    let first = c .before .before .before .before in
+    let start = first .before .before in
+    last-address (start .args .row) (start .args .byte) (start .args .s) (first .if1 .left) (c .before .before .before .is-last .ensures)
+    (c .before .before .if2 .taken) (c .before .with-byte .ensures) (c .place .ensures)
 
 is-address-requires : tie.Need-is-address-requires
 is-address-requires c κs = search needs
@@ -32,7 +38,12 @@ with-byte-requires-2 : tie.Need-with-byte-requires-2
 with-byte-requires-2 c κs = search needs
 
 returns-3 : tie.Need-returns-3
-returns-3 c = more-address (c .before .before .before .before .before .before .before .args .row) (c .before .before .before .before .before .before .before .args .byte) (c .before .before .before .before .before .before .before .args .s) (c .before .before .before .before .before .if1 .left) (c .before .before .before .before .is-last .result) (c .before .before .before .before .is-last .ensures) (c .before .before .before .if2 .left) (c .before .before .is-address .result) (c .before .before .is-address .ensures) _ (c .before .if3 .taken) (c .with-byte2 .ensures)
+returns-3 c =
+    let at-is-last = c .before .before .before .before in
+    let first = at-is-last .before in
+    let start = first .before .before in
+    more-address (start .args .row) (start .args .byte) (start .args .s) (first .if1 .left) (at-is-last .is-last .ensures) (c .before .before .before .if2 .left)
+    (c .before .before .is-address .ensures) (c .before .if3 .taken) (c .with-byte2 .ensures)
 
 is-latched-requires : tie.Need-is-latched-requires
 is-latched-requires c κs = search needs
@@ -41,10 +52,23 @@ roll-requires : tie.Need-roll-requires
 roll-requires c κs = search needs
 
 returns-4 : tie.Need-returns-4
-returns-4 c = rolled-address (c .before .before .before .before .before .before .before .before .before .args .row) (c .before .before .before .before .before .before .before .before .before .args .byte) (c .before .before .before .before .before .before .before .before .before .args .s) (c .before .before .before .before .before .before .before .if1 .left) (c .before .before .before .before .before .before .is-last .result) (c .before .before .before .before .before .before .is-last .ensures) (c .before .before .before .before .before .if2 .left) (c .before .before .before .before .is-address .result) (c .before .before .before .before .is-address .ensures) _ (c .before .before .is-latched .result) (c .before .before .before .if3 .left) (c .before .before .is-latched .ensures) (c .before .if4 .taken) (c .roll .ensures)
+returns-4 c =
+    let at-is-address = c .before .before .before .before in
+    let last = at-is-address .before in
+    let at-is-last = last .before in
+    let first = at-is-last .before in
+    let start = first .before .before in
+    rolled-address (start .args .row) (start .args .byte) (start .args .s) (first .if1 .left) (at-is-last .is-last .ensures) (last .if2 .left)
+    (at-is-address .is-address .ensures) (c .before .before .before .if3 .left) (c .before .before .is-latched .ensures) (c .before .if4 .taken) (c .roll .ensures)
 
 returns-5 : tie.Need-returns-5
-returns-5 c = same-address (c .before .before .before .before .before .before .before .before .args .row) (c .before .before .before .before .before .before .before .before .args .byte) (c .before .before .before .before .before .before .before .before .args .s) (c .before .before .before .before .before .before .if1 .left) (c .before .before .before .before .before .is-last .result) (c .before .before .before .before .before .is-last .ensures) (c .before .before .before .before .if2 .left) (c .before .before .before .is-address .result) (c .before .before .before .is-address .ensures) (c .before .is-latched .result) (c .before .before .if3 .left) (c .before .is-latched .ensures) (c .if4 .left)
+returns-5 c =
+    let last = c .before .before .before .before in
+    let at-is-last = last .before in
+    let first = at-is-last .before in
+    let start = first .before .before in
+    same-address (start .args .row) (start .args .byte) (start .args .s) (first .if1 .left) (at-is-last .is-last .ensures) (last .if2 .left)
+    (c .before .before .before .is-address .ensures) (c .before .before .if3 .left) (c .before .is-latched .ensures) (c .if4 .left)
 
 pub address-after-spec : {M : Type 1} → statement M
 address-after-spec =

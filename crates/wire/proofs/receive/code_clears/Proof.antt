@@ -16,7 +16,9 @@ is-busy-requires : tie.Need-is-busy-requires
 is-busy-requires c κs = search needs
 
 returns : tie.Need-returns
-returns c = rw (c .before .before .holds-latch .ensures, c .before .is-busy .ensures, c .before .before .before .facts .ensures, c .before .before .before .before .decode .ensures)
+returns c =
+    let decode = c .before .before .before .before .decode in
+    rw (c .before .before .holds-latch .ensures, c .before .is-busy .ensures, c .before .before .before .facts .ensures, decode .ensures)
 
 pub code-clears-spec : {M : Type 1} → statement M
 code-clears-spec =

@@ -14,7 +14,11 @@ is-busy-requires : tie.Need-is-busy-requires
 is-busy-requires c κs = search needs
 
 returns : tie.Need-returns
-returns c = code-command (c .before .before .before .before .before .before .before .args .row) (c .before .before .before .before .before .before .before .args .byte) (c .before .before .before .before .before .before .before .args .s) (c .before .before .before .decode .result) (c .before .before .facts .result) (c .before .is-busy .result) (c .before .before .before .before .if1 .taken) (c .before .before .before .decode .ensures) (c .before .before .facts .ensures) (c .before .is-busy .ensures)
+returns c =
+    let first = c .before .before .before .before in
+    let start = first .before .before .before in
+    code-command (start .args .row) (start .args .byte) (start .args .s) (first .if1 .taken) (c .before .before .before .decode .ensures)
+    (c .before .before .facts .ensures) (c .before .is-busy .ensures)
 
 with-byte-requires : tie.Need-with-byte-requires
 with-byte-requires c κs = search needs
@@ -29,10 +33,19 @@ facts-requires-2 : tie.Need-facts-requires-2
 facts-requires-2 c κs = search needs
 
 returns-2 : tie.Need-returns-2
-returns-2 c = lock-command (c .before .before .before .before .before .before .before .before .args .row) (c .before .before .before .before .before .before .before .before .args .byte) (c .before .before .before .before .before .before .before .before .args .s) (c .before .before .before .before .before .if1 .left) (c .before .before .before .is-last .result) (c .before .before .before .is-last .ensures) (c .before .before .before .before .with-byte .result) (c .before .before .lock-bit .result) (c .facts2 .result) (c .before .before .before .before .with-byte .ensures) (c .before .before .lock-bit .ensures) (c .before .if2 .taken) (c .facts2 .ensures)
+returns-2 c =
+    let at-with-byte = c .before .before .before .before in
+    let first = at-with-byte .before in
+    let start = first .before .before .before in
+    lock-command (start .args .row) (start .args .byte) (start .args .s) (first .if1 .left) (c .before .before .before .is-last .ensures)
+    (at-with-byte .with-byte .ensures) (c .before .before .lock-bit .ensures) (c .before .if2 .taken) (c .facts2 .ensures)
 
 returns-3 : tie.Need-returns-3
-returns-3 c = same-command (c .before .before .before .before .before .before .before .args .row) (c .before .before .before .before .before .before .before .args .byte) (c .before .before .before .before .before .before .before .args .s) (c .before .before .before .before .if1 .left) (c .before .before .is-last .result) (c .before .before .is-last .ensures) (c .before .before .before .with-byte .result) (c .before .lock-bit .result) (c .before .before .before .with-byte .ensures) (c .before .lock-bit .ensures) (c .if2 .left)
+returns-3 c =
+    let first = c .before .before .before .before in
+    let start = first .before .before .before in
+    same-command (start .args .row) (start .args .byte) (start .args .s) (first .if1 .left) (c .before .before .is-last .ensures)
+    (c .before .before .before .with-byte .ensures) (c .before .lock-bit .ensures) (c .if2 .left)
 
 pub command-after-spec : {M : Type 1} → statement M
 command-after-spec =

@@ -1,5 +1,5 @@
 -- `wire::receive::command_bytes` meets its contract.
-use Rattle.wire.proofs.Taking.{bytes-addressed, bytes-bare}
+use Rattle.wire.proofs.Taking.{bytes-told}
 use borrow.Author.Needs.{needs}
 use Rattle.wire.proofs.receive.command_bytes.Statement.{statement}
 use Rattle.wire.proofs.receive.command_bytes.Tie as tie
@@ -11,10 +11,14 @@ add-result : tie.Need-add-result
 add-result c = search needs
 
 returns : tie.Need-returns
-returns c = bytes-addressed (c .before .before .before .args .row) (c .before .before .before .args .i) (c .before .before .facts .result) (c .before .before .facts .ensures) (c .before .if1 .taken)
+returns c =
+    let start = c .before .before .before in
+    bytes-told (start .args .row) (start .args .i) (c .before .before .facts .ensures) (c .before .if1 .taken)
 
 returns-2 : tie.Need-returns-2
-returns-2 c = bytes-bare (c .before .before .args .row) (c .before .before .args .i) (c .before .facts .result) (c .before .facts .ensures) (c .if1 .left)
+returns-2 c =
+    let start = c .before .before in
+    bytes-told (start .args .row) (start .args .i) (c .before .facts .ensures) (c .if1 .left)
 
 pub command-bytes-spec : {M : Type 1} → statement M
 command-bytes-spec = tie.close (tie.spec facts-requires add-result returns returns-2)

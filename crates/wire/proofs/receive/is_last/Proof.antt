@@ -10,7 +10,9 @@ cast-result : tie.Need-cast-result
 cast-result c = search needs
 
 returns : tie.Need-returns
-returns c = rw (c .before .before .before .before .facts .ensures)
+returns c =
+    let facts = c .before .before .before .before .facts in
+    rw (facts .ensures)
 
 pub is-last-spec : {M : Type 1} → statement M
 is-last-spec = tie.close (tie.spec facts-requires cast-result returns)

@@ -13,7 +13,9 @@ holds-latch-requires : tie.Need-holds-latch-requires
 holds-latch-requires c κs = search needs
 
 returns : tie.Need-returns
-returns c = rw (c .before .holds-latch .ensures, c .before .before .before .before .facts .ensures)
+returns c =
+    let facts = c .before .before .before .before .facts in
+    rw (c .before .holds-latch .ensures, facts .ensures)
 
 pub is-latched-spec : {M : Type 1} → statement M
 is-latched-spec = tie.close (tie.spec facts-requires cast-result holds-latch-requires returns)

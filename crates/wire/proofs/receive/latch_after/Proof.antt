@@ -14,10 +14,18 @@ same-length : tie.Need-same-length
 same-length c = search needs
 
 returns : tie.Need-returns
-returns c = code-clears (c .before .before .before .before .before .before .before .before .before .args .row) (c .before .before .before .before .before .before .before .before .before .args .byte) (c .before .before .before .before .before .before .before .before .before .args .s) _ _ (c .before .before .before .before .before .code-clears .result) (c .before .before .before .before .before .before .if1 .taken) (c .before .before .before .before .before .code-clears .ensures) (c .before .before .before .before .if2 .taken) (c .before .before .clear-marks .ensures)
+returns c =
+    let clears = c .before .before .before .before in
+    let at-code-clears = clears .before in
+    let first = at-code-clears .before in
+    let start = first .before .before .before in
+    code-clears (start .args .row) (start .args .byte) (start .args .s) _ (first .if1 .taken) (at-code-clears .code-clears .ensures) (clears .if2 .taken)
+    (c .before .before .clear-marks .ensures)
 
 returns-2 : tie.Need-returns-2
-returns-2 c = code-keeps (c .before .before .before .before .before .args .row) (c .before .before .before .before .before .args .byte) (c .before .before .before .before .before .args .s) _ (c .before .code-clears .result) (c .before .before .if1 .taken) (c .before .code-clears .ensures) (c .if2 .left)
+returns-2 c =
+    let start = c .before .before .before .before .before in
+    code-keeps (start .args .row) (start .args .byte) (start .args .s) (c .before .before .if1 .taken) (c .before .code-clears .ensures) (c .if2 .left)
 
 is-latched-requires : tie.Need-is-latched-requires
 is-latched-requires c κs = search needs
@@ -29,10 +37,18 @@ same-length-2 : tie.Need-same-length-2
 same-length-2 c = search needs
 
 returns-3 : tie.Need-returns-3
-returns-3 c = byte-marks (c .before .before .before .before .before .before .before .before .before .args .row) (c .before .before .before .before .before .before .before .before .before .args .byte) (c .before .before .before .before .before .before .before .before .before .args .s) (c .before .before .before .before .before .before .if1 .left) _ _ (c .before .before .before .before .before .is-latched .result) (c .before .before .before .before .before .is-latched .ensures) (c .before .before .before .before .if3 .taken) (c .before .before .mark .ensures)
+returns-3 c =
+    let latched = c .before .before .before .before in
+    let at-is-latched = latched .before in
+    let first = at-is-latched .before in
+    let start = first .before .before .before in
+    byte-marks (start .args .row) (start .args .byte) (start .args .s) (first .if1 .left) _ (at-is-latched .is-latched .ensures) (latched .if3 .taken)
+    (c .before .before .mark .ensures)
 
 returns-4 : tie.Need-returns-4
-returns-4 c = byte-keeps (c .before .before .before .before .before .args .row) (c .before .before .before .before .before .args .byte) (c .before .before .before .before .before .args .s) (c .before .before .if1 .left) _ (c .before .is-latched .result) (c .before .is-latched .ensures) (c .if3 .left)
+returns-4 c =
+    let start = c .before .before .before .before .before in
+    byte-keeps (start .args .row) (start .args .byte) (start .args .s) (c .before .before .if1 .left) (c .before .is-latched .ensures) (c .if3 .left)
 
 pub latch-after-spec : {M : Type 1} → statement M
 latch-after-spec =

@@ -11,10 +11,14 @@ address-bit-requires-2 : tie.Need-address-bit-requires-2
 address-bit-requires-2 c κs = search needs
 
 returns : tie.Need-returns
-returns c = lock-one (c .before .before .before .args .row) (c .before .before .before .args .address) _ (c .before .if1 .taken) (c .address-bit .ensures)
+returns c =
+    let start = c .before .before .before in
+    lock-one (start .args .row) (start .args .address) (c .before .if1 .taken) (c .address-bit .ensures)
 
 returns-2 : tie.Need-returns-2
-returns-2 c = lock-more (c .before .before .before .args .row) (c .before .before .before .args .address) _ (c .before .if1 .left) (c .address-bit2 .ensures)
+returns-2 c =
+    let start = c .before .before .before in
+    lock-more (start .args .row) (start .args .address) (c .before .if1 .left) (c .address-bit2 .ensures)
 
 pub lock-bit-spec : {M : Type 1} → statement M
 lock-bit-spec = tie.close (tie.spec address-bit-requires address-bit-requires-2 returns returns-2)

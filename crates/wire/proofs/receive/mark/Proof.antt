@@ -1,8 +1,7 @@
 -- `wire::receive::mark` meets its contract.
-use Rattle.rules.proofs.Widths.{page-positive}
 use lib.ListN.{length-set}
-use native.Mathlib.Nat.{mod-lt}
 use native.Mathlib.Omega.{arith}
+use Rattle.wire.proofs.Taking.{place-inside}
 use borrow.Author.Needs.{needs}
 use Rattle.wire.proofs.receive.mark.Statement.{statement}
 use Rattle.wire.proofs.receive.mark.Tie as tie
@@ -11,13 +10,19 @@ place-requires : tie.Need-place-requires
 place-requires c κs = search needs
 
 slice-write-latch : tie.Need-slice-write-latch
-slice-write-latch c = omega (arith, c .place .ensures, c .before .before .pre .1, mod-lt (c .before .before .args .address) {m = c .before .before .args .row .page} (page-positive (c .before .before .pre .0)))
+slice-write-latch c =
+    let start = c .before .before in
+    omega (arith, place-inside (start .pre .0) (start .args .address) (c .place .ensures), start .pre .1)
 
 add-latch : tie.Need-add-latch
-add-latch c = omega (arith, c .place .ensures, c .before .before .pre .1, mod-lt (c .before .before .args .address) {m = c .before .before .args .row .page} (page-positive (c .before .before .pre .0)))
+add-latch c =
+    let start = c .before .before in
+    omega (arith, place-inside (start .pre .0) (start .args .address) (c .place .ensures), start .pre .1)
 
 slice-write-latch-2 : tie.Need-slice-write-latch-2
-slice-write-latch-2 c = simp length-set (omega (arith, c .place .ensures, c .before .before .pre .1, mod-lt (c .before .before .args .address) {m = c .before .before .args .row .page} (page-positive (c .before .before .pre .0))))
+slice-write-latch-2 c =
+    let start = c .before .before in
+    simp length-set (omega (arith, place-inside (start .pre .0) (start .args .address) (c .place .ensures), start .pre .1))
 
 same-length : tie.Need-same-length
 same-length c = search needs

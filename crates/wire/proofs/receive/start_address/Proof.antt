@@ -13,7 +13,9 @@ cast-result : tie.Need-cast-result
 cast-result c = search needs
 
 returns : tie.Need-returns
-returns c = rw (c .bit-of .ensures, c .before .before .before .before .facts .ensures)
+returns c =
+    let facts = c .before .before .before .before .facts in
+    rw (c .bit-of .ensures, facts .ensures)
 
 pub start-address-spec : {M : Type 1} → statement M
 start-address-spec = tie.close (tie.spec facts-requires bit-of-requires cast-result returns)

@@ -17,10 +17,15 @@ add-bits : tie.Need-add-bits
 add-bits c = search needs
 
 returns : tie.Need-returns
-returns c = whole-byte (c .before .before .before .before .args .i) _ _ (c .before .if1 .taken) (c .counted .ensures) ∙ ap (λ (v : ℕ). inputAfter v (c .before .before .before .before .args .i)) (c .before .before .before .with-bit .ensures)
+returns c =
+    let start = c .before .before .before .before in
+    whole-byte (start .args .i) _ (c .before .if1 .taken) (c .counted .ensures)
+    ∙ ap (λ (v : ℕ). inputAfter v (start .args .i)) (c .before .before .before .with-bit .ensures)
 
 returns-2 : tie.Need-returns-2
-returns-2 c = one-bit (c .before .before .before .before .args .i) _ (c .before .if1 .left) ∙ ap (λ (v : ℕ). inputAfter v (c .before .before .before .before .args .i)) (c .before .before .before .with-bit .ensures)
+returns-2 c =
+    let start = c .before .before .before .before in
+    one-bit (start .args .i) _ (c .before .if1 .left) ∙ ap (λ (v : ℕ). inputAfter v (start .args .i)) (c .before .before .before .with-bit .ensures)
 
 pub with-bit-spec : {M : Type 1} → statement M
 with-bit-spec = tie.close (tie.spec with-bit-requires counted-requires add-bits returns returns-2)

@@ -31,7 +31,9 @@ enum-told-4 : tie.Need-enum-told-4
 enum-told-4 c = search needs
 
 shared-slice-read-result-2 : tie.Need-shared-slice-read-result-2
-shared-slice-read-result-2 c = omega (arith, inside-page (c .before .before .before .before .before .args .row) (c .before .before .before .before .before .args .address) (c .before .before .before .before .before .args .source) (c .before .enum-told4 .given .1) (c .before .before .before .before .before .pre .3), c .before .before .before .before .before .pre .2)
+shared-slice-read-result-2 c =
+    let start = c .before .before .before .before .before in
+    omega (arith, inside-page (start .args .row) (start .args .address) (c .before .enum-told4 .given .1) (start .pre .3), start .pre .2)
 
 enum-told-5 : tie.Need-enum-told-5
 enum-told-5 c = search needs
@@ -40,19 +42,31 @@ cast-result : tie.Need-cast-result
 cast-result c = search needs
 
 returns : tie.Need-returns
-returns c = byte-by (c .before .before .before .before .args .s) _ _ (c .before .before .before .before .args .address) (c .before .before .before .before .args .source) _ _ (c .enum-told .given .1) refl
+returns c =
+    let start = c .before .before .before .before in
+    byte-by (start .args .s) _ _ (start .args .address) (c .enum-told .given .1) refl
 
 returns-2 : tie.Need-returns-2
-returns-2 c = byte-by (c .before .before .before .before .before .before .args .s) _ _ (c .before .before .before .before .before .before .args .address) (c .before .before .before .before .before .before .args .source) _ _ (c .before .before .enum-told2 .given .1) (c .status-byte .ensures ∙ ap (λ (x : Bool). c .before .before .before .before .before .before .args .s .registers .status + number (c .before .before .before .before .before .before .args .s .registers .wel) * 2 + number x) (c .before .is-busy .ensures))
+returns-2 c =
+    let start = c .before .before .before .before .before .before in
+    let registers = start .args .s .registers in
+    byte-by (start .args .s) _ _ (start .args .address) (c .before .before .enum-told2 .given .1)
+    (c .status-byte .ensures ∙ ap (λ (x : Bool). registers .status + number (registers .wel) * 2 + number x) (c .before .is-busy .ensures))
 
 returns-3 : tie.Need-returns-3
-returns-3 c = byte-by (c .before .before .before .before .before .args .s) _ _ (c .before .before .before .before .before .args .address) (c .before .before .before .before .before .args .source) _ _ (c .before .enum-told3 .given .1) refl
+returns-3 c =
+    let start = c .before .before .before .before .before in
+    byte-by (start .args .s) _ _ (start .args .address) (c .before .enum-told3 .given .1) refl
 
 returns-4 : tie.Need-returns-4
-returns-4 c = byte-by (c .before .before .before .before .before .args .s) _ _ (c .before .before .before .before .before .args .address) (c .before .before .before .before .before .args .source) _ _ (c .before .enum-told4 .given .1) refl
+returns-4 c =
+    let start = c .before .before .before .before .before in
+    byte-by (start .args .s) _ _ (start .args .address) (c .before .enum-told4 .given .1) refl
 
 returns-5 : tie.Need-returns-5
-returns-5 c = byte-by (c .before .before .before .before .before .args .s) _ _ (c .before .before .before .before .before .args .address) (c .before .before .before .before .before .args .source) _ _ (c .before .enum-told5 .given .1) (byte-number (c .before .before .before .before .before .args .s .registers .locked))
+returns-5 c =
+    let start = c .before .before .before .before .before in
+    byte-by (start .args .s) _ _ (start .args .address) (c .before .enum-told5 .given .1) (byte-number (start .args .s .registers .locked))
 
 pub byte-of-spec : {M : Type 1} → statement M
 byte-of-spec =

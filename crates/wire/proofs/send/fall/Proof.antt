@@ -14,13 +14,23 @@ shown-address-requires : tie.Need-shown-address-requires
 shown-address-requires c κs = search needs
 
 output-after-requires : tie.Need-output-after-requires
-output-after-requires c κs = (c .before .before .before .before .before .pre .0, c .before .before .before .before .before .pre .1, c .before .before .before .before .before .pre .3, subst (λ (a : ℕ). a < c .before .before .before .before .before .args .row .cells) (sym (c .shown-address .ensures)) (shown-inside (c .before .before .before .before .before .pre .0) (c .before .before .before .before .before .args .s) (c .before .before .before .before .before .pre .2)), c .before .before .before .before .before .pre .4, c .before .before .before .before .before .pre .5)
+output-after-requires c κs =
+    let start = c .before .before .before .before .before in
+    let inside =
+    subst (λ (a : ℕ). a < start .args .row .cells) (sym (c .shown-address .ensures)) (shown-inside (start .pre .0) (start .args .s) (start .pre .2)) in
+    (start .pre .0, start .pre .1, start .pre .3, inside, start .pre .4, start .pre .5)
 
 returns : tie.Need-returns
-returns c = fall-shows (c .before .before .before .before .before .before .before .args .row) (c .before .before .before .before .before .before .before .args .s) _ _ (c .before .before .before .before .before .before .before .args .decoded) (c .before .before .before .before .is-sending .result) (c .before .before .before .before .is-sending .ensures) (c .before .before .shown-address .result) (c .before .output-after .result) (c .before .before .before .if1 .taken) (c .before .before .shown-address .ensures) (c .before .output-after .ensures)
+returns c =
+    let at-is-sending = c .before .before .before .before in
+    let start = at-is-sending .before .before .before in
+    fall-shows (start .args .row) (start .args .s) _ _ (start .args .decoded) (at-is-sending .is-sending .ensures) (c .before .before .before .if1 .taken)
+    (c .before .before .shown-address .ensures) (c .before .output-after .ensures)
 
 returns-2 : tie.Need-returns-2
-returns-2 c = fall-still (c .before .before .before .before .args .row) (c .before .before .before .before .args .s) _ _ (c .before .before .before .before .args .decoded) (c .before .is-sending .result) (c .before .is-sending .ensures) (c .if1 .left)
+returns-2 c =
+    let start = c .before .before .before .before in
+    fall-still (start .args .row) (start .args .s) _ _ (start .args .decoded) (c .before .is-sending .ensures) (c .if1 .left)
 
 pub fall-spec : {M : Type 1} → statement M
 fall-spec =

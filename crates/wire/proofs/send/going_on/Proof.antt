@@ -27,19 +27,29 @@ enum-told-5 : tie.Need-enum-told-5
 enum-told-5 c = search needs
 
 returns : tie.Need-returns
-returns c = going-by (c .before .before .args .row) (c .before .before .args .address) (c .before .before .args .source) _ _ (c .enum-told .given .1) refl
+returns c =
+    let start = c .before .before in
+    going-by (start .args .row) (start .args .address) (c .enum-told .given .1) refl
 
 returns-2 : tie.Need-returns-2
-returns-2 c = going-by (c .before .before .args .row) (c .before .before .args .address) (c .before .before .args .source) _ _ (c .enum-told2 .given .1) refl
+returns-2 c =
+    let start = c .before .before in
+    going-by (start .args .row) (start .args .address) (c .enum-told2 .given .1) refl
 
 returns-3 : tie.Need-returns-3
-returns-3 c = going-by (c .before .before .before .args .row) (c .before .before .before .args .address) (c .before .before .before .args .source) _ _ (c .before .enum-told3 .given .1) (rw (c .cell-after .ensures))
+returns-3 c =
+    let start = c .before .before .before in
+    going-by (start .args .row) (start .args .address) (c .before .enum-told3 .given .1) (rw (c .cell-after .ensures))
 
 returns-4 : tie.Need-returns-4
-returns-4 c = going-by (c .before .before .before .args .row) (c .before .before .before .args .address) (c .before .before .before .args .source) _ _ (c .before .enum-told4 .given .1) (c .page-going .ensures)
+returns-4 c =
+    let start = c .before .before .before in
+    going-by (start .args .row) (start .args .address) (c .before .enum-told4 .given .1) (c .page-going .ensures)
 
 returns-5 : tie.Need-returns-5
-returns-5 c = going-by (c .before .before .args .row) (c .before .before .args .address) (c .before .before .args .source) _ _ (c .enum-told5 .given .1) refl
+returns-5 c =
+    let start = c .before .before in
+    going-by (start .args .row) (start .args .address) (c .enum-told5 .given .1) refl
 
 pub going-on-spec : {M : Type 1} → statement M
 going-on-spec =

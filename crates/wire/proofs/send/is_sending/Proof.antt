@@ -16,7 +16,10 @@ cast-result : tie.Need-cast-result
 cast-result c = search needs
 
 returns : tie.Need-returns
-returns c = rw (c .before .before .before .command-bytes .ensures, c .before .before .before .before .going-on .ensures, c .before .before .before .before .before .source-of .ensures)
+returns c =
+    let at-going-on = c .before .before .before .before in
+    let source-of = at-going-on .before .source-of in
+    rw (c .before .before .before .command-bytes .ensures, at-going-on .going-on .ensures, source-of .ensures)
 
 pub is-sending-spec : {M : Type 1} → statement M
 is-sending-spec =

@@ -12,22 +12,44 @@ going-on-requires : tie.Need-going-on-requires
 going-on-requires c κs = search needs
 
 returns : tie.Need-returns
-returns c = output-past (c .before .before .before .before .before .before .args .row) (c .before .before .before .before .before .before .args .s) _ _ (c .before .before .before .before .before .before .args .address) (c .before .before .before .source-of .result) (c .before .before .going-on .result) (c .before .before .before .source-of .ensures) (c .before .before .going-on .ensures) (c .if1 .taken)
+returns c =
+    let start = c .before .before .before .before .before .before in
+    output-past (start .args .row) (start .args .s) _ _ (start .args .address) (c .before .before .before .source-of .ensures) (c .before .before .going-on .ensures)
+    (c .if1 .taken)
 
 byte-of-requires : tie.Need-byte-of-requires
-byte-of-requires c κs = (c .before .before .before .before .before .before .before .before .pre .2, omega (arith, c .before .before .before .before .before .before .before .before .pre .3, c .before .before .before .before .before .before .before .before .pre .4), c .before .before .before .before .before .before .before .before .pre .5, not-past (c .before .before .before .before .before .before .before .before .args .row) (c .before .before .before .before .before .before .before .before .args .address) (c .before .before .before .before .before .source-of .result) (c .before .before .before .before .going-on .result) (c .before .before .before .before .going-on .ensures) (c .before .before .if1 .left))
+byte-of-requires c κs =
+    let at-going-on = c .before .before .before .before in
+    let at-source-of = at-going-on .before in
+    let start = at-source-of .before .before .before in (
+      start .pre .2,
+      omega (arith, start .pre .3, start .pre .4),
+      start .pre .5,
+      not-past (start .args .row) (start .args .address) (at-source-of .source-of .result) (at-going-on .going-on .ensures) (c .before .before .if1 .left),
+    )
 
 bit-out-requires : tie.Need-bit-out-requires
 bit-out-requires c κs = search needs
 
 returns-2 : tie.Need-returns-2
-returns-2 c = output-byte (c .before .before .before .before .before .before .before .before .before .before .args .row) (c .before .before .before .before .before .before .before .before .before .before .args .s) _ _ (c .before .before .before .before .before .before .before .before .before .before .args .address) (c .before .before .before .before .before .before .before .source-of .result) (c .before .before .before .before .before .before .going-on .result) (c .before .before .before .before .before .before .before .source-of .ensures) (c .before .before .before .before .before .before .going-on .ensures) (c .before .byte-of .result) _ (c .before .before .before .before .if1 .left) (c .before .before .if2 .taken) (c .before .byte-of .ensures) (c .bit-out .ensures)
+returns-2 c =
+    let past = c .before .before .before .before in
+    let at-going-on = past .before .before in
+    let at-source-of = at-going-on .before in
+    let start = at-source-of .before .before .before in
+    output-byte (start .args .row) (start .args .s) _ _ (start .args .address) (at-source-of .source-of .ensures) (at-going-on .going-on .ensures) (past .if1 .left)
+    (c .before .before .if2 .taken) (c .before .byte-of .ensures) (c .bit-out .ensures)
 
 bit-out-requires-2 : tie.Need-bit-out-requires-2
 bit-out-requires-2 c κs = search needs
 
 returns-3 : tie.Need-returns-3
-returns-3 c = output-bit (c .before .before .before .before .before .before .before .before .before .args .row) (c .before .before .before .before .before .before .before .before .before .args .s) _ _ (c .before .before .before .before .before .before .before .before .before .args .address) (c .before .before .before .before .before .before .source-of .result) (c .before .before .before .before .before .going-on .result) (c .before .before .before .before .before .before .source-of .ensures) (c .before .before .before .before .before .going-on .ensures) _ (c .before .before .before .if1 .left) (c .before .if2 .left) (c .bit-out2 .ensures)
+returns-3 c =
+    let at-going-on = c .before .before .before .before .before in
+    let at-source-of = at-going-on .before in
+    let start = at-source-of .before .before .before in
+    output-bit (start .args .row) (start .args .s) _ _ (start .args .address) (at-source-of .source-of .ensures) (at-going-on .going-on .ensures)
+    (c .before .before .before .if1 .left) (c .before .if2 .left) (c .bit-out2 .ensures)
 
 pub output-after-spec : {M : Type 1} → statement M
 output-after-spec =

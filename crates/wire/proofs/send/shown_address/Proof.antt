@@ -17,10 +17,16 @@ going-on-requires : tie.Need-going-on-requires
 going-on-requires c κs = search needs
 
 returns : tie.Need-returns
-returns c = shown-next (c .before .before .before .before .before .before .before .args .row) (c .before .before .before .before .before .before .before .args .s) (c .before .before .before .before .command-bytes .result) (c .before .source-of .result) (c .going-on .result) (c .before .before .before .before .command-bytes .ensures) (c .before .before .if1 .taken) (c .before .source-of .ensures) (c .going-on .ensures)
+returns c =
+    let at-command-bytes = c .before .before .before .before in
+    let start = at-command-bytes .before .before .before in
+    shown-next (start .args .row) (start .args .s) (at-command-bytes .command-bytes .ensures) (c .before .before .if1 .taken) (c .before .source-of .ensures)
+    (c .going-on .ensures)
 
 returns-2 : tie.Need-returns-2
-returns-2 c = shown-same (c .before .before .before .before .before .args .row) (c .before .before .before .before .before .args .s) (c .before .before .command-bytes .result) (c .before .before .command-bytes .ensures) (c .if1 .left)
+returns-2 c =
+    let start = c .before .before .before .before .before in
+    shown-same (start .args .row) (start .args .s) (c .before .before .command-bytes .ensures) (c .if1 .left)
 
 pub shown-address-spec : {M : Type 1} → statement M
 shown-address-spec =
