@@ -1,11 +1,10 @@
 -- `caller::judges` meets its contract.
-use lib.ListN.{replicate}
 use mathlib.Core.Path.{ap, _∙_}
 use borrow.Author.Tests.{eq-eqb}
 use Rattle.rules.specs.declared.State.{State}
-use Rattle.rules.specs.World.{worldOf}
 use Rattle.rules.specs.Sound.{clauses, isSound}
 use Rattle.rules.specs.Call.{lentRefusal, worldRefusal}
+use Rattle.caller.proofs.Lent.{lent}
 use borrow.Author.Needs.{needs}
 use Rattle.caller.proofs.judges.Statement.{statement}
 use Rattle.caller.proofs.judges.Tie as tie
@@ -27,7 +26,9 @@ world-refused-requires c κs = search needs
 
 expect-requires : tie.Need-expect-requires
 unfolding lentRefusal worldRefusal isSound clauses
-expect-requires c κs = eq-eqb _ 0 (c .world-refused .ensures ∙ ap (λ (s : State). worldRefusal 1 (worldOf s (replicate 512 0xFF) (replicate 16 0xFF) (replicate 32 0))) (c .before .before .before .before .prepared-state .ensures))
+expect-requires c κs =
+    let prepared = c .before .before .before .before .prepared-state in
+    eq-eqb _ 0 (c .world-refused .ensures ∙ ap (λ (s : State). worldRefusal 1 (lent s)) (prepared .ensures))
 
 slice-aggregate-world-refused-4 : tie.Need-slice-aggregate-world-refused-4
 slice-aggregate-world-refused-4 c = search needs

@@ -1,8 +1,5 @@
 -- `caller::prepares` meets its contract.
-use Rattle.rules.specs.Trace.{eventAt, recordRefusal, turn}
-use Rattle.rules.specs.Event.{react, step}
-use Rattle.rules.specs.Sound.{clauses, isSound}
-use Rattle.rules.specs.Call.{Prepared, lentRefusal, worldRefusal, prepareOutcome, eventOutcome, runOutcome, cellPageOutcome, identificationPageOutcome}
+use Rattle.rules.specs.Call.{Prepared, lentRefusal, prepareOutcome}
 use mathlib.Core.Path.{ap}
 use borrow.Author.Tests.{eq-eqb}
 use borrow.Author.Needs.{needs}
@@ -22,8 +19,10 @@ prepare-requires : tie.Need-prepare-requires
 prepare-requires c κs = search needs
 
 expect-requires : tie.Need-expect-requires
-unfolding lentRefusal worldRefusal prepareOutcome eventOutcome runOutcome cellPageOutcome identificationPageOutcome isSound clauses step react turn recordRefusal eventAt
-expect-requires c κs = eq-eqb _ 0 (ap (λ (x : Prepared). x .number) (c .before .before .before .before .prepare .ensures))
+unfolding lentRefusal prepareOutcome
+expect-requires c κs =
+    let good = c .before .before .before .before .prepare in
+    eq-eqb _ 0 (ap (λ (x : Prepared). x .number) (good .ensures))
 
 slice-aggregate-prepare-4 : tie.Need-slice-aggregate-prepare-4
 slice-aggregate-prepare-4 c = search needs
@@ -38,8 +37,10 @@ prepare-requires-2 : tie.Need-prepare-requires-2
 prepare-requires-2 c κs = search needs
 
 expect-requires-2 : tie.Need-expect-requires-2
-unfolding lentRefusal worldRefusal prepareOutcome eventOutcome runOutcome cellPageOutcome identificationPageOutcome isSound clauses step react turn recordRefusal eventAt
-expect-requires-2 c κs = eq-eqb _ 1 (ap (λ (x : Prepared). x .number) (c .before .before .before .before .prepare2 .ensures))
+unfolding lentRefusal prepareOutcome
+expect-requires-2 c κs =
+    let bad = c .before .before .before .before .prepare2 in
+    eq-eqb _ 1 (ap (λ (x : Prepared). x .number) (bad .ensures))
 
 returns : tie.Need-returns
 returns c = search needs

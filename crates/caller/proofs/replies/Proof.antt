@@ -1,18 +1,20 @@
 -- `caller::replies` meets its contract.
-use lib.ListN.{replicate}
 use mathlib.Core.Bool.{false}
 use Rattle.rules.specs.declared.Event.{Event}
 use Rattle.rules.specs.declared.State.{State}
-use Rattle.rules.specs.World.{worldOf}
-use Rattle.rules.specs.Trace.{eventAt, recordRefusal, turn}
 use Rattle.rules.specs.Event.{react, step}
 use Rattle.rules.specs.Sound.{clauses, isSound}
-use Rattle.rules.specs.Call.{Replied, lentRefusal, worldRefusal, prepareOutcome, eventOutcome, runOutcome, cellPageOutcome, identificationPageOutcome}
+use Rattle.rules.specs.Call.{Replied, lentRefusal, worldRefusal, eventOutcome}
 use mathlib.Core.Path.{ap, _∙_}
 use borrow.Author.Tests.{eq-eqb}
+use Rattle.caller.proofs.Lent.{lent}
 use borrow.Author.Needs.{needs}
 use Rattle.caller.proofs.replies.Statement.{statement}
 use Rattle.caller.proofs.replies.Tie as tie
+
+-- The answer to the event, from a state on.
+abbrev replied : State → Replied
+replied s = eventOutcome 1 (lent s) (Event.Select false)
 
 prepared-state-requires : tie.Need-prepared-state-requires
 prepared-state-requires c κs = search needs
@@ -30,12 +32,18 @@ event-requires : tie.Need-event-requires
 event-requires c κs = search needs
 
 expect-requires : tie.Need-expect-requires
-unfolding lentRefusal worldRefusal prepareOutcome eventOutcome runOutcome cellPageOutcome identificationPageOutcome isSound clauses step react turn recordRefusal eventAt
-expect-requires c κs = eq-eqb _ 0 (ap (λ (x : Replied). x .number) (c .before .before .before .before .event .ensures) ∙ ap (λ (s : State). eventOutcome 1 (worldOf s (replicate 512 0xFF) (replicate 16 0xFF) (replicate 32 0)) (Event.Select false) .number) (c .before .before .before .before .before .before .before .before .prepared-state .ensures))
+unfolding lentRefusal worldRefusal eventOutcome isSound clauses step react
+expect-requires c κs =
+    let at-event = c .before .before .before .before in
+    let prepared = at-event .before .before .before .before .prepared-state in
+    eq-eqb _ 0 (ap (λ (x : Replied). x .number) (at-event .event .ensures ∙ ap replied (prepared .ensures)))
 
 expect-requires-2 : tie.Need-expect-requires-2
-unfolding lentRefusal worldRefusal prepareOutcome eventOutcome runOutcome cellPageOutcome identificationPageOutcome isSound clauses step react turn recordRefusal eventAt
-expect-requires-2 c κs = eq-eqb _ 2 (ap (λ (x : Replied). x .answer) (c .before .before .before .before .before .before .event .ensures) ∙ ap (λ (s : State). eventOutcome 1 (worldOf s (replicate 512 0xFF) (replicate 16 0xFF) (replicate 32 0)) (Event.Select false) .answer) (c .before .before .before .before .before .before .before .before .before .before .prepared-state .ensures))
+unfolding lentRefusal worldRefusal eventOutcome isSound clauses step react
+expect-requires-2 c κs =
+    let at-event = c .before .before .before .before .before .before in
+    let prepared = at-event .before .before .before .before .prepared-state in
+    eq-eqb _ 2 (ap (λ (x : Replied). x .answer) (at-event .event .ensures ∙ ap replied (prepared .ensures)))
 
 slice-aggregate-event-4 : tie.Need-slice-aggregate-event-4
 slice-aggregate-event-4 c = search needs
@@ -50,12 +58,16 @@ event-requires-2 : tie.Need-event-requires-2
 event-requires-2 c κs = search needs
 
 expect-requires-3 : tie.Need-expect-requires-3
-unfolding lentRefusal worldRefusal prepareOutcome eventOutcome runOutcome cellPageOutcome identificationPageOutcome isSound clauses step react turn recordRefusal eventAt
-expect-requires-3 c κs = eq-eqb _ 1 (ap (λ (x : Replied). x .number) (c .before .before .before .before .event2 .ensures))
+unfolding lentRefusal worldRefusal eventOutcome
+expect-requires-3 c κs =
+    let refused = c .before .before .before .before .event2 in
+    eq-eqb _ 1 (ap (λ (x : Replied). x .number) (refused .ensures))
 
 expect-requires-4 : tie.Need-expect-requires-4
-unfolding lentRefusal worldRefusal prepareOutcome eventOutcome runOutcome cellPageOutcome identificationPageOutcome isSound clauses step react turn recordRefusal eventAt
-expect-requires-4 c κs = eq-eqb _ 2 (ap (λ (x : Replied). x .answer) (c .before .before .before .before .before .before .event2 .ensures))
+unfolding lentRefusal worldRefusal eventOutcome
+expect-requires-4 c κs =
+    let refused = c .before .before .before .before .before .before .event2 in
+    eq-eqb _ 2 (ap (λ (x : Replied). x .answer) (refused .ensures))
 
 returns : tie.Need-returns
 returns c = search needs

@@ -1,17 +1,20 @@
 -- `caller::runs` meets its contract.
-use lib.ListN.{replicate}
 use mathlib.Core.List.{[], _∷_}
 use Rattle.rules.specs.declared.State.{State}
-use Rattle.rules.specs.World.{worldOf}
 use Rattle.rules.specs.Trace.{Progress, eventAt, recordRefusal, turn}
 use Rattle.rules.specs.Event.{react, step}
 use Rattle.rules.specs.Sound.{clauses, isSound}
-use Rattle.rules.specs.Call.{lentRefusal, worldRefusal, prepareOutcome, eventOutcome, runOutcome, cellPageOutcome, identificationPageOutcome}
+use Rattle.rules.specs.Call.{lentRefusal, worldRefusal, runOutcome}
 use mathlib.Core.Path.{ap, _∙_}
 use borrow.Author.Tests.{eq-eqb}
+use Rattle.caller.proofs.Lent.{lent}
 use borrow.Author.Needs.{needs}
 use Rattle.caller.proofs.runs.Statement.{statement}
 use Rattle.caller.proofs.runs.Tie as tie
+
+-- The run of the trace, from a state on.
+abbrev ran : State → Progress
+ran s = runOutcome 1 (lent s) (3 ∷ 0 ∷ 1 ∷ 0 ∷ 4 ∷ []) (9 ∷ []) 5
 
 prepared-state-requires : tie.Need-prepared-state-requires
 prepared-state-requires c κs = search needs
@@ -35,16 +38,25 @@ run-requires : tie.Need-run-requires
 run-requires c κs = search needs
 
 expect-requires : tie.Need-expect-requires
-unfolding lentRefusal worldRefusal prepareOutcome eventOutcome runOutcome cellPageOutcome identificationPageOutcome isSound clauses step react turn recordRefusal eventAt
-expect-requires c κs = eq-eqb _ 0 (ap (λ (x : Progress). x .number) (c .before .before .before .before .before .run .ensures) ∙ ap (λ (s : State). runOutcome 1 (worldOf s (replicate 512 0xFF) (replicate 16 0xFF) (replicate 32 0)) (3 ∷ 0 ∷ 1 ∷ 0 ∷ 4 ∷ []) (9 ∷ []) 5 .number) (c .before .before .before .before .before .before .before .before .before .before .before .prepared-state .ensures))
+unfolding lentRefusal worldRefusal runOutcome isSound clauses step react turn recordRefusal eventAt
+expect-requires c κs =
+    let at-run = c .before .before .before .before .before in
+    let prepared = at-run .before .before .before .before .before .before .prepared-state in
+    eq-eqb _ 0 (ap (λ (x : Progress). x .number) (at-run .run .ensures ∙ ap ran (prepared .ensures)))
 
 expect-requires-2 : tie.Need-expect-requires-2
-unfolding lentRefusal worldRefusal prepareOutcome eventOutcome runOutcome cellPageOutcome identificationPageOutcome isSound clauses step react turn recordRefusal eventAt
-expect-requires-2 c κs = eq-eqb _ 1 (ap (λ (x : Progress). x .done) (c .before .before .before .before .before .before .before .run .ensures) ∙ ap (λ (s : State). runOutcome 1 (worldOf s (replicate 512 0xFF) (replicate 16 0xFF) (replicate 32 0)) (3 ∷ 0 ∷ 1 ∷ 0 ∷ 4 ∷ []) (9 ∷ []) 5 .done) (c .before .before .before .before .before .before .before .before .before .before .before .before .before .prepared-state .ensures))
+unfolding lentRefusal worldRefusal runOutcome isSound clauses step react turn recordRefusal eventAt
+expect-requires-2 c κs =
+    let at-run = c .before .before .before .before .before .before .before in
+    let prepared = at-run .before .before .before .before .before .before .prepared-state in
+    eq-eqb _ 1 (ap (λ (x : Progress). x .done) (at-run .run .ensures ∙ ap ran (prepared .ensures)))
 
 expect-requires-3 : tie.Need-expect-requires-3
-unfolding lentRefusal worldRefusal prepareOutcome eventOutcome runOutcome cellPageOutcome identificationPageOutcome isSound clauses step react turn recordRefusal eventAt
-expect-requires-3 c κs = eq-eqb _ 5 (ap (λ (x : Progress). x .taken) (c .before .before .before .before .before .before .before .before .before .run .ensures) ∙ ap (λ (s : State). runOutcome 1 (worldOf s (replicate 512 0xFF) (replicate 16 0xFF) (replicate 32 0)) (3 ∷ 0 ∷ 1 ∷ 0 ∷ 4 ∷ []) (9 ∷ []) 5 .taken) (c .before .before .before .before .before .before .before .before .before .before .before .before .before .before .before .prepared-state .ensures))
+unfolding lentRefusal worldRefusal runOutcome isSound clauses step react turn recordRefusal eventAt
+expect-requires-3 c κs =
+    let at-run = c .before .before .before .before .before .before .before .before .before in
+    let prepared = at-run .before .before .before .before .before .before .prepared-state in
+    eq-eqb _ 5 (ap (λ (x : Progress). x .taken) (at-run .run .ensures ∙ ap ran (prepared .ensures)))
 
 slice-aggregate-run-6 : tie.Need-slice-aggregate-run-6
 slice-aggregate-run-6 c = search needs
@@ -65,12 +77,16 @@ run-requires-2 : tie.Need-run-requires-2
 run-requires-2 c κs = search needs
 
 expect-requires-4 : tie.Need-expect-requires-4
-unfolding lentRefusal worldRefusal prepareOutcome eventOutcome runOutcome cellPageOutcome identificationPageOutcome isSound clauses step react turn recordRefusal eventAt
-expect-requires-4 c κs = eq-eqb _ 1 (ap (λ (x : Progress). x .number) (c .before .before .before .before .before .run2 .ensures))
+unfolding lentRefusal worldRefusal runOutcome
+expect-requires-4 c κs =
+    let refused = c .before .before .before .before .before .run2 in
+    eq-eqb _ 1 (ap (λ (x : Progress). x .number) (refused .ensures))
 
 expect-requires-5 : tie.Need-expect-requires-5
-unfolding lentRefusal worldRefusal prepareOutcome eventOutcome runOutcome cellPageOutcome identificationPageOutcome isSound clauses step react turn recordRefusal eventAt
-expect-requires-5 c κs = eq-eqb _ 0 (ap (λ (x : Progress). x .done) (c .before .before .before .before .before .before .before .run2 .ensures))
+unfolding lentRefusal worldRefusal runOutcome
+expect-requires-5 c κs =
+    let refused = c .before .before .before .before .before .before .before .run2 in
+    eq-eqb _ 0 (ap (λ (x : Progress). x .done) (refused .ensures))
 
 returns : tie.Need-returns
 returns c = search needs

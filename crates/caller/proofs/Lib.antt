@@ -1,0 +1,2 @@
+-- What the calls are tried on.
+pub mod Lent
