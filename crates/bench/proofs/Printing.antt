@@ -6,7 +6,7 @@ use mathlib.Core.List.{List, _++_}
 use native.Mathlib.Omega.{arith}
 use lib.ListN.{length, getD, take, drop, replicate, length-append}
 use lib.Dec.{eqb, leb, ltb, lit≤}
-use lib.Seq.{take-append-le}
+use lib.Seq.{take-append-le, length-take-le}
 use borrow.Author.Tests.{ne-eqb, le-leb, lt-leb, lt-ltb, le-ltb, leb-true, ltb-false, not-false}
 use Rattle.rules.specs.World.{World}
 use Rattle.rules.specs.declared.Row.{Row}
@@ -33,12 +33,12 @@ module _ (input : List ℕ) where
     unfolding firstRecord
     first-head h = rw (le-ltb 32_768 (length input) a, lt-ltb (length input) 4 h)
 
-    module _ (b : 4 ≤ length input) (kind : ℕ) (ek : kind ≡ two input 2) where
+    module _ (b : 4 ≤ length input) {kind : ℕ} (ek : kind ≡ two input 2) where
       pub first-kind : (kind ≡ 16 → ⊥) → 7 ≡ firstRecord input .number
       unfolding firstRecord
       first-kind h = rw (le-ltb 32_768 (length input) a, le-ltb (length input) 4 b, ← ek, ne-eqb kind 16 h)
 
-      module _ (c : kind ≡ 16) (size : ℕ) (es : size ≡ two input 0) where
+      module _ (c : kind ≡ 16) {size : ℕ} (es : size ≡ two input 0) where
         pub first-length : (size ≡ 3 → ⊥) → 8 ≡ firstRecord input .number
         unfolding firstRecord
         first-length h = rw (le-ltb 32_768 (length input) a, le-ltb (length input) 4 b, ← ek, c, ← es, ne-eqb size 3 h)
@@ -56,11 +56,33 @@ module _ (input : List ℕ) where
             module _ (f : 1 ≤ getD input 4 0) where
               pub first-above : 2 < getD input 4 0 → 1 ≡ firstRecord input .number
               unfolding firstRecord
-              first-above h = rw (le-ltb 32_768 (length input) a, le-ltb (length input) 4 b, ← ek, c, ← es, d, le-ltb (length input) 5 e, le-leb 1 (getD input 4 0) f, lt-leb (getD input 4 0) 2 h)
+              first-above h =
+                  rw (
+                    le-ltb 32_768 (length input) a,
+                    le-ltb (length input) 4 b,
+                    ← ek,
+                    c,
+                    ← es,
+                    d,
+                    le-ltb (length input) 5 e,
+                    le-leb 1 (getD input 4 0) f,
+                    lt-leb (getD input 4 0) 2 h,
+                  )
 
               pub first-good : getD input 4 0 ≤ 2 → 0 ≡ firstRecord input .number
               unfolding firstRecord
-              first-good h = rw (le-ltb 32_768 (length input) a, le-ltb (length input) 4 b, ← ek, c, ← es, d, le-ltb (length input) 5 e, le-leb 1 (getD input 4 0) f, le-leb (getD input 4 0) 2 h)
+              first-good h =
+                  rw (
+                    le-ltb 32_768 (length input) a,
+                    le-ltb (length input) 4 b,
+                    ← ek,
+                    c,
+                    ← es,
+                    d,
+                    le-ltb (length input) 5 e,
+                    le-leb 1 (getD input 4 0) f,
+                    le-leb (getD input 4 0) 2 h,
+                  )
 
 -- What is known where it is not refused.
 pub record Named (input : List ℕ) : Type 0 where
@@ -90,23 +112,39 @@ named input =
     }))))))
 
 -- A run of the whole trace on what preparing left is the bench's.
-pub is-bench : (device n : ℕ) (cells identification latch : List ℕ) (w : World) (trace answers zeros : List ℕ) (p : Progress) → lentRefusal device cells identification latch ≡ 0
-    → preparedAs n w ≡ prepareOutcome device cells identification latch → length answers ≡ length trace → zeros ≡ replicate (length answers) 0 → p ≡ runOutcome device w trace zeros (length trace)
+pub is-bench : (device : ℕ) {n : ℕ} (cells identification latch : List ℕ) {w : World} (trace answers : List ℕ) {zeros : List ℕ} {p : Progress}
+    → lentRefusal device cells identification latch ≡ 0
+    → preparedAs n w ≡ prepareOutcome device cells identification latch
+    → length answers ≡ length trace
+    → zeros ≡ replicate (length answers) 0
+    → p ≡ runOutcome device w trace zeros (length trace)
     → p ≡ benchRun device trace
 unfolding prepareOutcome benchRun
-is-bench device n cells identification latch w trace answers zeros p z ew el ez ep =
+is-bench device cells identification latch {w} trace answers z ew el ez ep =
     let e : w ≡ prepared (rowOf device) = ap (λ x. x .world) ew ∙ rw z in
     ep ∙ rw (ez, el, e)
 
 -- What the first two devices need of the room.
-pub room : (device : ℕ) (row : Row) → row ≡ rowOf device → 1 ≤ device → device ≤ 2 → (row .cells ≤ 16_384) × (row .page ≤ 64)
-room zero row e a b = absurd (omega arith)
-room (suc zero) row e a b = rw e (lit≤ tt, lit≤ tt)
-room (suc (suc zero)) row e a b = rw e (lit≤ tt, lit≤ tt)
-room (suc (suc (suc d))) row e a b = absurd (omega arith)
+pub room : (device : ℕ) {row : Row} → row ≡ rowOf device → 1 ≤ device → device ≤ 2 → (row .cells ≤ 16_384) × (row .page ≤ 64)
+room zero e a b = absurd (omega arith)
+room (suc zero) e a b = rw e (lit≤ tt, lit≤ tt)
+room (suc (suc zero)) e a b = rw e (lit≤ tt, lit≤ tt)
+room (suc (suc (suc d))) e a b = absurd (omega arith)
+
+-- So the device's part of each lent buffer is as long as it has to be.
+pub parts : (device : ℕ) {row : Row} → row ≡ rowOf device → 1 ≤ device → device ≤ 2 → (cells identification latch : List ℕ)
+    → (length cells ≡ 16_384) × (length identification ≡ 64) × (length latch ≡ 128)
+    → (length (take (row .cells) cells) ≡ row .cells) × (length (take (row .page) identification) ≡ row .page)
+    × (length (take (row .page + row .page) latch) ≡ row .page + row .page)
+parts device {row} e a b cells identification latch lent =
+    let least = room device e a b in (
+      length-take-le (row .cells) cells (omega (arith, least .0, lent .0)),
+      length-take-le (row .page) identification (omega (arith, least .1, lent .1)),
+      length-take-le (row .page + row .page) latch (omega (arith, least .1, lent .2)),
+    )
 
 -- A run of the bench: how many records it can have done, and that its state's status is a byte.
-module _ (device : ℕ) (trace : List ℕ) (p : Progress) (a : 1 ≤ device) (b : device ≤ 2) (e : p ≡ benchRun device trace) where
+module _ (device : ℕ) (trace : List ℕ) {p : Progress} (a : 1 ≤ device) (b : device ≤ 2) (e : p ≡ benchRun device trace) where
   ran : Course (rowOf device) trace (length trace) (length trace) p
   ran = subst (Course (rowOf device) trace (length trace) (length trace)) (sym e) (bench-course device trace (a-device device a (omega arith)))
 
@@ -123,7 +161,8 @@ module _ (device : ℕ) (trace : List ℕ) (p : Progress) (a : 1 ≤ device) (b 
   ran-status = status-small (rowOf device) (p .world) (ran .sound)
 
   -- Its text, from the answers with whatever follows them.
-  pub ran-text : (rest : List ℕ) {before after : List ℕ} {next : ℕ} → Put before 0 (header ++ lines 1 (take (p .done) (p .answers ++ rest)) ++ ended (p .number) (hexadecimal (statusByte (p .world .state)))) after next
+  pub ran-text : (rest : List ℕ) {before after : List ℕ} {next : ℕ}
+      → Put before 0 (header ++ lines 1 (take (p .done) (p .answers ++ rest)) ++ ended (p .number) (hexadecimal (statusByte (p .world .state)))) after next
       → Put before 0 (runText (benchRun device trace)) after next
   unfolding runText
   ran-text rest h =
@@ -131,14 +170,15 @@ module _ (device : ℕ) (trace : List ℕ) (p : Progress) (a : 1 ≤ device) (b 
       same-text (ap (λ (t : List ℕ). header ++ lines 1 t ++ ended (p .number) (hexadecimal (statusByte (p .world .state)))) same ∙ ap runText e) h
 
 -- The whole output, where the first record is refused and where it is not.
-pub text-refused : (input : List ℕ) (n : ℕ) → n ≡ firstRecord input .number → (n ≡ 0 → ⊥) → ended n unknown ≡ benchText input
+pub text-refused : (input : List ℕ) {n : ℕ} → n ≡ firstRecord input .number → (n ≡ 0 → ⊥) → ended n unknown ≡ benchText input
 unfolding benchText
-text-refused input n e z = rw (← e, ne-eqb n 0 z)
+text-refused input {n} e z = rw (← e, ne-eqb n 0 z)
 
 device-is : (input : List ℕ) → firstRecord input .device ≡ getD input 4 0
 unfolding firstRecord
 device-is input = refl
 
-pub text-run : (input trace : List ℕ) (n : ℕ) → n ≡ firstRecord input .number → n ≡ 0 → trace ≡ drop 5 input → runText (benchRun (getD input 4 0) trace) ≡ benchText input
+pub text-run : (input : List ℕ) {trace : List ℕ} {n : ℕ} → n ≡ firstRecord input .number → n ≡ 0 → trace ≡ drop 5 input
+    → runText (benchRun (getD input 4 0) trace) ≡ benchText input
 unfolding benchText
-text-run input trace n e z t = rw (← e, z, t, device-is input)
+text-run input e z t = rw (← e, z, t, device-is input)

@@ -23,22 +23,38 @@ same-length : tie.Need-same-length
 same-length c = search needs
 
 returns : tie.Need-returns
-returns c = let w = whole _ _ _ _ (c .before .before .put-end .ensures) in (w .0, w .1 ∙ text-refused (c .before .before .before .before .before .before .before .before .before .before .before .before .before .args .input .now) _ (c .before .before .before .before .before .before .first-refused .ensures) (c .before .before .before .before .before .if1 .taken))
+returns c =
+    let refused = c .before .before .before .before .before in
+    let start = refused .before .before .before .before .before .before .before .before in
+    let text = whole _ _ _ _ (c .before .before .put-end .ensures) in
+    (text .0, text .1 ∙ text-refused (start .args .input .now) (refused .before .first-refused .ensures) (refused .if1 .taken))
 
 shared-slice-read-device : tie.Need-shared-slice-read-device
-shared-slice-read-device c = omega (arith, named (c .before .before .before .before .before .before .before .before .before .args .input .now) (sym (c .before .before .first-refused .ensures) ∙ c .before .if1 .left) .long)
+shared-slice-read-device c =
+    let start = c .before .before .before .before .before .before .before .before .before in
+    omega (arith, named (start .args .input .now) (sym (c .before .before .first-refused .ensures) ∙ c .before .if1 .left) .long)
 
 sub-put-trace : tie.Need-sub-put-trace
-sub-put-trace c = named (c .before .before .before .before .before .before .before .before .before .args .input .now) (sym (c .before .before .first-refused .ensures) ∙ c .before .if1 .left) .long
+sub-put-trace c =
+    let start = c .before .before .before .before .before .before .before .before .before in
+    named (start .args .input .now) (sym (c .before .before .first-refused .ensures) ∙ c .before .if1 .left) .long
 
 part-put-trace-start : tie.Need-part-put-trace-start
-part-put-trace-start c = omega (arith, named (c .before .before .before .before .before .before .before .before .before .args .input .now) (sym (c .before .before .first-refused .ensures) ∙ c .before .if1 .left) .long)
+part-put-trace-start c =
+    let start = c .before .before .before .before .before .before .before .before .before in
+    omega (arith, named (start .args .input .now) (sym (c .before .before .first-refused .ensures) ∙ c .before .if1 .left) .long)
 
 part-put-trace-end : tie.Need-part-put-trace-end
 part-put-trace-end c = search needs
 
 put-trace-requires : tie.Need-put-trace-requires
-put-trace-requires c κs = let n = named (c .before .before .before .before .before .before .before .before .before .before .before .before .before .before .before .args .input .now) (sym (c .before .before .before .before .before .before .before .before .first-refused .ensures) ∙ c .before .before .before .before .before .before .before .if1 .left) in ((n .least, n .most, omega (arith, n .fits, n .long, length-drop 5 (c .before .before .before .before .before .before .before .before .before .before .before .before .before .before .before .args .input .now), length-take-le (length (c .before .before .before .before .before .before .before .before .before .before .before .before .before .before .before .args .input .now) - 5) (drop 5 (c .before .before .before .before .before .before .before .before .before .before .before .before .before .before .before .args .input .now)) (omega (arith, length-drop 5 (c .before .before .before .before .before .before .before .before .before .before .before .before .before .before .before .args .input .now))))), (c .before .before .before .before .before .before .before .before .before .before .before .before .before .before .before .pre .0, c .before .before .before .before .before .before .before .before .before .before .before .before .before .before .before .pre .1))
+put-trace-requires c κs =
+    let good = c .before .before .before .before .before .before .before in
+    let start = good .before .before .before .before .before .before .before .before in
+    let input = start .args .input .now in
+    let n = named input (sym (good .before .first-refused .ensures) ∙ good .if1 .left) in
+    let rest = length-take-le (length input - 5) (drop 5 input) (omega (arith, length-drop 5 input)) in
+    ((n .least, n .most, omega (arith, n .fits, n .long, length-drop 5 input, rest)), (start .pre .0, start .pre .1))
 
 same-length-2 : tie.Need-same-length-2
 same-length-2 c = search needs
@@ -56,7 +72,14 @@ same-length-6 : tie.Need-same-length-6
 same-length-6 c = search needs
 
 returns-2 : tie.Need-returns-2
-returns-2 c = let w = whole _ _ _ _ (c .before .before .before .before .before .before .before .before .before .before .put-trace .ensures) in (w .0, w .1 ∙ text-run (c .before .before .before .before .before .before .before .before .before .before .before .before .before .before .before .before .before .before .before .before .before .before .before .before .before .before .args .input .now) _ _ (c .before .before .before .before .before .before .before .before .before .before .before .before .before .before .before .before .before .before .before .first-refused .ensures) (c .before .before .before .before .before .before .before .before .before .before .before .before .before .before .before .before .before .before .if1 .left) (take-all (length (c .before .before .before .before .before .before .before .before .before .before .before .before .before .before .before .before .before .before .before .before .before .before .before .before .before .before .args .input .now) - 5) (drop 5 (c .before .before .before .before .before .before .before .before .before .before .before .before .before .before .before .before .before .before .before .before .before .before .before .before .before .before .args .input .now)) (omega (arith, length-drop 5 (c .before .before .before .before .before .before .before .before .before .before .before .before .before .before .before .before .before .before .before .before .before .before .before .before .before .before .args .input .now)))))
+returns-2 c =
+    let put = c .before .before .before .before .before .before .before .before .before .before in
+    let good = put .before .before .before .before .before .before .before .before in
+    let start = good .before .before .before .before .before .before .before .before in
+    let input = start .args .input .now in
+    let text = whole _ _ _ _ (put .put-trace .ensures) in
+    let all = take-all (length input - 5) (drop 5 input) (omega (arith, length-drop 5 input)) in
+    (text .0, text .1 ∙ text-run input (good .before .first-refused .ensures) (good .if1 .left) all)
 
 pub bench-text-spec : {M : Type 1} → statement M
 bench-text-spec =

@@ -15,28 +15,68 @@ two-at-requires : tie.Need-two-at-requires
 two-at-requires c κs = search needs
 
 returns-3 : tie.Need-returns-3
-returns-3 c = first-kind (c .before .before .before .before .before .args .input .now) (omega (arith, c .before .before .before .if1 .left)) (c .before .before .if2 .left) _ (c .before .two-at .ensures) (c .if3 .taken)
+returns-3 c =
+    let start = c .before .before .before .before .before in
+    first-kind (start .args .input .now) (omega (arith, c .before .before .before .if1 .left)) (c .before .before .if2 .left) (c .before .two-at .ensures)
+    (c .if3 .taken)
 
 two-at-requires-2 : tie.Need-two-at-requires-2
 two-at-requires-2 c κs = search needs
 
 returns-4 : tie.Need-returns-4
-returns-4 c = first-length (c .before .before .before .before .before .before .before .args .input .now) (omega (arith, c .before .before .before .before .before .if1 .left)) (c .before .before .before .before .if2 .left) _ (c .before .before .before .two-at .ensures) (c .before .before .if3 .left) _ (c .before .two-at2 .ensures) (c .if4 .taken)
+returns-4 c =
+    let headed = c .before .before .before .before in
+    let fits = headed .before in
+    let start = fits .before .before in
+    first-length (start .args .input .now) (omega (arith, fits .if1 .left)) (headed .if2 .left) (c .before .before .before .two-at .ensures)
+    (c .before .before .if3 .left) (c .before .two-at2 .ensures) (c .if4 .taken)
 
 returns-5 : tie.Need-returns-5
-returns-5 c = first-body (c .before .before .before .before .before .before .before .before .args .input .now) (omega (arith, c .before .before .before .before .before .before .if1 .left)) (c .before .before .before .before .before .if2 .left) _ (c .before .before .before .before .two-at .ensures) (c .before .before .before .if3 .left) _ (c .before .before .two-at2 .ensures) (c .before .if4 .left) (c .if5 .taken)
+returns-5 c =
+    let at-kind = c .before .before .before .before in
+    let headed = at-kind .before in
+    let fits = headed .before in
+    let start = fits .before .before in
+    first-body (start .args .input .now) (omega (arith, fits .if1 .left)) (headed .if2 .left) (at-kind .two-at .ensures) (c .before .before .before .if3 .left)
+    (c .before .before .two-at2 .ensures) (c .before .if4 .left) (c .if5 .taken)
 
 shared-slice-read-device : tie.Need-shared-slice-read-device
 shared-slice-read-device c = search needs
 
 returns-6 : tie.Need-returns-6
-returns-6 c = first-below (c .before .before .before .before .before .before .before .before .before .before .args .input .now) (omega (arith, c .before .before .before .before .before .before .before .before .if1 .left)) (c .before .before .before .before .before .before .before .if2 .left) _ (c .before .before .before .before .before .before .two-at .ensures) (c .before .before .before .before .before .if3 .left) _ (c .before .before .before .before .two-at2 .ensures) (c .before .before .before .if4 .left) (c .before .before .if5 .left) (omega (arith, c .if6 .taken))
+returns-6 c =
+    let at-size = c .before .before .before .before in
+    let known = at-size .before in
+    let at-kind = known .before in
+    let headed = at-kind .before in
+    let fits = headed .before in
+    let start = fits .before .before in
+    first-below (start .args .input .now) (omega (arith, fits .if1 .left)) (headed .if2 .left) (at-kind .two-at .ensures) (known .if3 .left)
+    (at-size .two-at2 .ensures) (c .before .before .before .if4 .left) (c .before .before .if5 .left) (omega (arith, c .if6 .taken))
 
 returns-7 : tie.Need-returns-7
-returns-7 c = first-above (c .before .before .before .before .before .before .before .before .before .before .before .args .input .now) (omega (arith, c .before .before .before .before .before .before .before .before .before .if1 .left)) (c .before .before .before .before .before .before .before .before .if2 .left) _ (c .before .before .before .before .before .before .before .two-at .ensures) (c .before .before .before .before .before .before .if3 .left) _ (c .before .before .before .before .before .two-at2 .ensures) (c .before .before .before .before .if4 .left) (c .before .before .before .if5 .left) (omega (arith, c .before .if6 .left)) (omega (arith, c .if7 .taken))
+returns-7 c =
+    let sized = c .before .before .before .before in
+    let at-size = sized .before in
+    let known = at-size .before in
+    let at-kind = known .before in
+    let headed = at-kind .before in
+    let fits = headed .before in
+    let start = fits .before .before in
+    first-above (start .args .input .now) (omega (arith, fits .if1 .left)) (headed .if2 .left) (at-kind .two-at .ensures) (known .if3 .left)
+    (at-size .two-at2 .ensures) (sized .if4 .left) (c .before .before .before .if5 .left) (omega (arith, c .before .if6 .left)) (omega (arith, c .if7 .taken))
 
 returns-8 : tie.Need-returns-8
-returns-8 c = first-good (c .before .before .before .before .before .before .before .before .before .before .before .args .input .now) (omega (arith, c .before .before .before .before .before .before .before .before .before .if1 .left)) (c .before .before .before .before .before .before .before .before .if2 .left) _ (c .before .before .before .before .before .before .before .two-at .ensures) (c .before .before .before .before .before .before .if3 .left) _ (c .before .before .before .before .before .two-at2 .ensures) (c .before .before .before .before .if4 .left) (c .before .before .before .if5 .left) (omega (arith, c .before .if6 .left)) (omega (arith, c .if7 .left))
+returns-8 c =
+    let sized = c .before .before .before .before in
+    let at-size = sized .before in
+    let known = at-size .before in
+    let at-kind = known .before in
+    let headed = at-kind .before in
+    let fits = headed .before in
+    let start = fits .before .before in
+    first-good (start .args .input .now) (omega (arith, fits .if1 .left)) (headed .if2 .left) (at-kind .two-at .ensures) (known .if3 .left)
+    (at-size .two-at2 .ensures) (sized .if4 .left) (c .before .before .before .if5 .left) (omega (arith, c .before .if6 .left)) (omega (arith, c .if7 .left))
 
 pub first-refused-spec : {M : Type 1} → statement M
 first-refused-spec =

@@ -12,13 +12,18 @@ slice-aggregate-put : tie.Need-slice-aggregate-put
 slice-aggregate-put c = search needs
 
 put-requires : tie.Need-put-requires
-put-requires c κs = omega (arith, c .before .before .before .before .before .before .before .before .pre, c .before .before .before .before .put-ending .ensures .place, c .before .before .before .before .put-ending .ensures .long, ending-short (c .before .before .before .before .before .before .before .before .args .number) (c .before .before .before .before .before .before .before .before .args .status .now))
+put-requires c κs =
+    let ended = c .before .before .before .before in
+    let start = ended .before .before .before .before in
+    omega (arith, start .pre, ended .put-ending .ensures .place, ended .put-ending .ensures .long, ending-short (start .args .number) (start .args .status .now))
 
 same-length : tie.Need-same-length
 same-length c = search needs
 
 returns : tie.Need-returns
-returns c = joined (c .before .before .before .before .before .before .before .put-ending .ensures) (c .before .before .put .ensures)
+returns c =
+    let ended = c .before .before .before .before .before .before .before in
+    joined (ended .put-ending .ensures) (c .before .before .put .ensures)
 
 pub put-end-spec : {M : Type 1} → statement M
 put-end-spec =
