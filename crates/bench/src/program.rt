@@ -53,7 +53,9 @@ fn bench_run(
     answers: &mut [u8],
 ) -> Ran
     requires { ⌜ (lentRefusal device (now cells) (now identification) (now latch) ≡ 0) × (length (now answers) ≡ length (now trace)) ⌝ }
-    ensures { λ r. ⌜ progressOf (r .number) (r .taken) (r .done) (worldOf (r .state) (now (cells .exit)) (now (identification .exit)) (now (latch .exit))) (now (answers .exit)) ≡ benchRun device (now (trace .entry)) ⌝ }
+    ensures { λ r. ⌜
+        progressOf (r .number) (r .taken) (r .done) (worldOf (r .state) (now (cells .exit)) (now (identification .exit)) (now (latch .exit))) (now (answers .exit))
+        ≡ benchRun device (now (trace .entry)) ⌝ }
 {
     let ready = m95::prepare(device, cells, identification, latch);
     memory::fill(answers, 0);

@@ -180,7 +180,9 @@ pub fn clock(
 ) -> State
     requires { ⌜ (Widths row) × (SoundInput (s .input)) × (s .place .address < row .cells) × (storable row (s .registers .status) ≡ s .registers .status) ⌝ }
     requires { ⌜ (length (now cells) ≡ row .cells) × (length (now identification) ≡ row .page) × (length (now latch) ≡ row .page + row .page) ⌝ }
-    ensures { λ r. ⌜ worldOf r (now (cells .entry)) (now (identification .entry)) (now (latch .exit)) ≡ step row (Event.Clock high) (worldOf s (now (cells .entry)) (now (identification .entry)) (now (latch .entry))) ⌝ }
+    ensures { λ r. ⌜
+        worldOf r (now (cells .entry)) (now (identification .entry)) (now (latch .exit))
+        ≡ step row (Event.Clock high) (worldOf s (now (cells .entry)) (now (identification .entry)) (now (latch .entry))) ⌝ }
 {
     if high {
         let rises = is_decoding(s) & !s.pins.c;
@@ -204,7 +206,9 @@ pub fn step(
     event: Event,
 ) -> State
     requires { ⌜ (Widths row) × (Sound row (worldOf s (now cells) (now identification) (now latch))) × (Lent row (worldOf s (now cells) (now identification) (now latch))) ⌝ }
-    ensures { λ r. ⌜ worldOf r (now (cells .exit)) (now (identification .exit)) (now (latch .exit)) ≡ step row event (worldOf s (now (cells .entry)) (now (identification .entry)) (now (latch .entry))) ⌝ }
+    ensures { λ r. ⌜
+        worldOf r (now (cells .exit)) (now (identification .exit)) (now (latch .exit))
+        ≡ step row event (worldOf s (now (cells .entry)) (now (identification .entry)) (now (latch .entry))) ⌝ }
 {
     match event {
         Event::Clock(high) => clock(row, s, cells, identification, latch, high),

@@ -85,7 +85,9 @@ pub fn prepare(
     identification: &mut [u8],
     latch: &mut [u8],
 ) -> Prepared
-    ensures { λ r. ⌜ preparedAs (r .number) (worldOf (r .state) (now (cells .exit)) (now (identification .exit)) (now (latch .exit))) ≡ prepareOutcome device (now (cells .entry)) (now (identification .entry)) (now (latch .entry)) ⌝ }
+    ensures { λ r. ⌜
+        preparedAs (r .number) (worldOf (r .state) (now (cells .exit)) (now (identification .exit)) (now (latch .exit)))
+        ≡ prepareOutcome device (now (cells .entry)) (now (identification .entry)) (now (latch .entry)) ⌝ }
 {
     let number = lent_refused(device, cells, identification, latch);
     let state = prepared_state();

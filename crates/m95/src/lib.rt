@@ -57,7 +57,9 @@ pub fn event(
     latch: &mut [u8],
     event: Event,
 ) -> Replied
-    ensures { λ r. ⌜ repliedAs (r .number) (r .answer) (worldOf (r .state) (now (cells .exit)) (now (identification .exit)) (now (latch .exit))) ≡ eventOutcome device (worldOf s (now (cells .entry)) (now (identification .entry)) (now (latch .entry))) event ⌝ }
+    ensures { λ r. ⌜
+        repliedAs (r .number) (r .answer) (worldOf (r .state) (now (cells .exit)) (now (identification .exit)) (now (latch .exit)))
+        ≡ eventOutcome device (worldOf s (now (cells .entry)) (now (identification .entry)) (now (latch .entry))) event ⌝ }
 {
     let number = world_refused(device, s, cells, identification, latch);
     if number != 0 {
@@ -96,7 +98,9 @@ pub fn run(
     answers: &mut [u8],
     limit: usize,
 ) -> Ran
-    ensures { λ r. ⌜ progressOf (r .number) (r .taken) (r .done) (worldOf (r .state) (now (cells .exit)) (now (identification .exit)) (now (latch .exit))) (now (answers .exit)) ≡ runOutcome device (worldOf s (now (cells .entry)) (now (identification .entry)) (now (latch .entry))) (now (trace .entry)) (now (answers .entry)) limit ⌝ }
+    ensures { λ r. ⌜
+        progressOf (r .number) (r .taken) (r .done) (worldOf (r .state) (now (cells .exit)) (now (identification .exit)) (now (latch .exit))) (now (answers .exit))
+        ≡ runOutcome device (worldOf s (now (cells .entry)) (now (identification .entry)) (now (latch .entry))) (now (trace .entry)) (now (answers .entry)) limit ⌝ }
 {
     let number = world_refused(device, s, cells, identification, latch);
     if number != 0 {

@@ -100,7 +100,9 @@ pub extern "C" fn m95_prepare(
     identification: &mut [u8],
     latch: &mut [u8],
 ) -> usize
-    ensures { λ r. ⌜ preparedAs r (buffersOf (now (state .exit)) (now (cells .exit)) (now (identification .exit)) (now (latch .exit))) ≡ prepareLeft device (buffersOf (now (state .entry)) (now (cells .entry)) (now (identification .entry)) (now (latch .entry))) ⌝ }
+    ensures { λ r. ⌜
+        preparedAs r (buffersOf (now (state .exit)) (now (cells .exit)) (now (identification .exit)) (now (latch .exit)))
+        ≡ prepareLeft device (buffersOf (now (state .entry)) (now (cells .entry)) (now (identification .entry)) (now (latch .entry))) ⌝ }
 {
     let number = device_of(device);
     if state.len() != 36 {
@@ -188,7 +190,9 @@ pub extern "C" fn m95_event(
     value: usize,
     answer: &mut usize,
 ) -> usize
-    ensures { λ r. ⌜ repliedAs r (now (answer .exit)) (buffersOf (now (state .exit)) (now (cells .exit)) (now (identification .exit)) (now (latch .exit))) ≡ eventLeft device (buffersOf (now (state .entry)) (now (cells .entry)) (now (identification .entry)) (now (latch .entry))) kind value ⌝ }
+    ensures { λ r. ⌜
+        repliedAs r (now (answer .exit)) (buffersOf (now (state .exit)) (now (cells .exit)) (now (identification .exit)) (now (latch .exit)))
+        ≡ eventLeft device (buffersOf (now (state .entry)) (now (cells .entry)) (now (identification .entry)) (now (latch .entry))) kind value ⌝ }
 {
     let d = device_of(device);
     let s = state_of(state);
@@ -224,7 +228,9 @@ pub extern "C" fn m95_run(
     taken: &mut usize,
     done: &mut usize,
 ) -> usize
-    ensures { λ r. ⌜ ranAs r (now (taken .exit)) (now (done .exit)) (now (answers .exit)) (buffersOf (now (state .exit)) (now (cells .exit)) (now (identification .exit)) (now (latch .exit))) ≡ runLeft device (buffersOf (now (state .entry)) (now (cells .entry)) (now (identification .entry)) (now (latch .entry))) (now (trace .entry)) (now (answers .entry)) limit ⌝ }
+    ensures { λ r. ⌜
+        ranAs r (now (taken .exit)) (now (done .exit)) (now (answers .exit)) (buffersOf (now (state .exit)) (now (cells .exit)) (now (identification .exit)) (now (latch .exit)))
+        ≡ runLeft device (buffersOf (now (state .entry)) (now (cells .entry)) (now (identification .entry)) (now (latch .entry))) (now (trace .entry)) (now (answers .entry)) limit ⌝ }
 {
     let d = device_of(device);
     let s = state_of(state);

@@ -37,7 +37,9 @@ pub fn run_records(
     limit: usize,
 ) -> Ran
     requires { ⌜ (Widths row) × (Sound row (worldOf s (now cells) (now identification) (now latch))) × (Lent row (worldOf s (now cells) (now identification) (now latch))) ⌝ }
-    ensures { λ r. ⌜ progressOf (r .number) (r .taken) (r .done) (worldOf (r .state) (now (cells .exit)) (now (identification .exit)) (now (latch .exit))) (now (answers .exit)) ≡ run limit row (now (trace .entry)) (progressOf 0 0 0 (worldOf s (now (cells .entry)) (now (identification .entry)) (now (latch .entry))) (now (answers .entry))) ⌝ }
+    ensures { λ r. ⌜
+        progressOf (r .number) (r .taken) (r .done) (worldOf (r .state) (now (cells .exit)) (now (identification .exit)) (now (latch .exit))) (now (answers .exit))
+        ≡ run limit row (now (trace .entry)) (progressOf 0 0 0 (worldOf s (now (cells .entry)) (now (identification .entry)) (now (latch .entry))) (now (answers .entry))) ⌝ }
 {
     let mut t = s;
     let mut at: usize = 0;

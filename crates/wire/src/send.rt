@@ -116,7 +116,9 @@ pub fn byte_of(
     source: Source,
     address: usize,
 ) -> u8
-    requires { ⌜ (storable row (s .registers .status) ≡ s .registers .status) × (address < length (now cells)) × (length (now identification) ≡ row .page) × (going row source address .past ≡ false) ⌝ }
+    requires { ⌜
+        (storable row (s .registers .status) ≡ s .registers .status) × (address < length (now cells)) × (length (now identification) ≡ row .page)
+        × (going row source address .past ≡ false) ⌝ }
     ensures { λ r. ⌜ r ≡ byteOf s (now (cells .entry)) (now (identification .entry)) source address ⌝ }
 {
     match source {
@@ -154,7 +156,9 @@ pub fn output_after(
     identification: &[u8],
     address: usize,
 ) -> Output
-    requires { ⌜ (Widths row) × (s .input .bits ≤ 7) × (storable row (s .registers .status) ≡ s .registers .status) × (address < row .cells) × (length (now cells) ≡ row .cells) × (length (now identification) ≡ row .page) ⌝ }
+    requires { ⌜
+        (Widths row) × (s .input .bits ≤ 7) × (storable row (s .registers .status) ≡ s .registers .status) × (address < row .cells)
+        × (length (now cells) ≡ row .cells) × (length (now identification) ≡ row .page) ⌝ }
     ensures { λ r. ⌜ r ≡ outputAfter row s (now (cells .entry)) (now (identification .entry)) address ⌝ }
 {
     let source = source_of(s);
@@ -175,7 +179,9 @@ pub fn output_after(
 
 // C has fallen: where the fall is decoded and the command is sending, Q moves on.
 pub fn fall(row: Row, s: State, decoded: bool, cells: &[u8], identification: &[u8]) -> State
-    requires { ⌜ (Widths row) × (s .input .bits ≤ 7) × (s .place .address < row .cells) × (storable row (s .registers .status) ≡ s .registers .status) × (length (now cells) ≡ row .cells) × (length (now identification) ≡ row .page) ⌝ }
+    requires { ⌜
+        (Widths row) × (s .input .bits ≤ 7) × (s .place .address < row .cells) × (storable row (s .registers .status) ≡ s .registers .status)
+        × (length (now cells) ≡ row .cells) × (length (now identification) ≡ row .page) ⌝ }
     ensures { λ r. ⌜ r ≡ fallen row decoded s (now (cells .entry)) (now (identification .entry)) ⌝ }
 {
     if decoded & is_sending(row, s) {

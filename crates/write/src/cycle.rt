@@ -71,7 +71,9 @@ pub fn wait(
 ) -> State
     requires { ⌜ (Widths row) × (SoundCycle row (s .cycle .kind) (s .cycle .next) (s .place .start) (s .place .left)) ⌝ }
     requires { ⌜ (length (now cells) ≡ row .cells) × (length (now identification) ≡ row .page) × (length (now latch) ≡ row .page + row .page) ⌝ }
-    ensures { λ r. ⌜ worldOf r (now (cells .exit)) (now (identification .exit)) (now (latch .entry)) ≡ waited row wait (worldOf s (now (cells .entry)) (now (identification .entry)) (now (latch .entry))) ⌝ }
+    ensures { λ r. ⌜
+        worldOf r (now (cells .exit)) (now (identification .exit)) (now (latch .entry))
+        ≡ waited row wait (worldOf s (now (cells .entry)) (now (identification .entry)) (now (latch .entry))) ⌝ }
 {
     let n = wait as usize;
     let cycle = s.cycle;

@@ -136,8 +136,8 @@ slice-write-answers c =
     let at-sorted = c .before .before .before .before .before in
     let head = at-sorted .before .before .before in
     let given = head .before .before .before .before .before .before .args in
-    let k = known-way (given .row) (head .loop .t) _ _ _ (c .before .before .before .way .given .1) (at-sorted .sorted .ensures) in
-    ltb-true _ _ (k .0)
+    let known = known-way (given .row) (head .loop .t) _ _ _ (c .before .before .before .way .given .1) (at-sorted .sorted .ensures) in
+    ltb-true _ _ (known .0)
 
 add-at : tie.Need-add-at Inv-loop μ-loop
 add-at c =
@@ -146,8 +146,8 @@ add-at c =
     let head = at-if1 .before .before in
     let start = head .before .before .before .before .before .before in
     let given = start .args in
-    let k = known-way (given .row) (head .loop .t) _ _ _ (c .before .before .before .way .given .1) (at-sorted .sorted .ensures) in
-    omega (arith, k .1 .whole, at-if1 .if1 .left, start .good)
+    let known = known-way (given .row) (head .loop .t) _ _ _ (c .before .before .before .way .given .1) (at-sorted .sorted .ensures) in
+    omega (arith, known .1 .whole, at-if1 .if1 .left, start .good)
 
 add-n : tie.Need-add-n Inv-loop μ-loop
 add-n c =
@@ -169,9 +169,9 @@ loop-again-2 c =
     let head = at-loop-test .before in
     let start = head .before .before .before .before .before .before in
     let given = start .args in
-    let k = known-way (given .row) (head .loop .t) _ _ _ (at-way .way .given .1) (at-sorted .sorted .ensures) in
-    pin-on (head .loop .inv) (start .pre .0) (at-if1 .if1 .left) (at-loop-test .loop-test .taken) (k .1) (data-small (at-way .way .given .0 .0))
-    (data-pin (at-way .way .given .0 .0)) refl (k .0) (data-alone (given .row) (head .loop .t) _ (c .before .quick-data .ensures)) (c .answer .ensures)
+    let known = known-way (given .row) (head .loop .t) _ _ _ (at-way .way .given .1) (at-sorted .sorted .ensures) in
+    pin-on (head .loop .inv) (start .pre .0) (at-if1 .if1 .left) (at-loop-test .loop-test .taken) (known .1) (data-small (at-way .way .given .0 .0))
+    (data-pin (at-way .way .given .0 .0)) refl (known .0) (data-alone (given .row) (head .loop .t) _ (c .before .quick-data .ensures)) (c .answer .ensures)
 
 enum-told-2 : tie.Need-enum-told-2 Inv-loop μ-loop
 enum-told-2 c = search needs
@@ -181,8 +181,8 @@ quick-bit-requires c κs =
     let at-sorted = c .before .before in
     let head = at-sorted .before .before .before in
     let given = head .before .before .before .before .before .before .args in
-    let k = known-way (given .row) (head .loop .t) _ _ _ (c .enum-told2 .given .1) (at-sorted .sorted .ensures) in
-    (head .loop .inv .sound .unsettled .input, k .2 .0, k .2 .1, k .2 .2)
+    let known = known-way (given .row) (head .loop .t) _ _ _ (c .enum-told2 .given .1) (at-sorted .sorted .ensures) in
+    (head .loop .inv .sound .unsettled .input, known .2 .0, known .2 .1, known .2 .2)
 
 answer-requires-2 : tie.Need-answer-requires-2 Inv-loop μ-loop
 answer-requires-2 c κs = search needs
@@ -192,8 +192,8 @@ slice-write-answers-2 c =
     let at-sorted = c .before .before .before .before in
     let head = at-sorted .before .before .before in
     let given = head .before .before .before .before .before .before .args in
-    let k = known-way (given .row) (head .loop .t) _ _ _ (c .before .before .enum-told2 .given .1) (at-sorted .sorted .ensures) in
-    ltb-true _ _ (k .0)
+    let known = known-way (given .row) (head .loop .t) _ _ _ (c .before .before .enum-told2 .given .1) (at-sorted .sorted .ensures) in
+    ltb-true _ _ (known .0)
 
 add-at-2 : tie.Need-add-at-2 Inv-loop μ-loop
 add-at-2 c =
@@ -202,8 +202,8 @@ add-at-2 c =
     let head = at-if1 .before .before in
     let start = head .before .before .before .before .before .before in
     let given = start .args in
-    let k = known-way (given .row) (head .loop .t) _ _ _ (c .before .before .enum-told2 .given .1) (at-sorted .sorted .ensures) in
-    omega (arith, k .1 .whole, at-if1 .if1 .left, start .good)
+    let known = known-way (given .row) (head .loop .t) _ _ _ (c .before .before .enum-told2 .given .1) (at-sorted .sorted .ensures) in
+    omega (arith, known .1 .whole, at-if1 .if1 .left, start .good)
 
 add-n-2 : tie.Need-add-n-2 Inv-loop μ-loop
 add-n-2 c =
@@ -224,9 +224,9 @@ loop-again-3 c =
     let head = at-loop-test .before in
     let start = head .before .before .before .before .before .before in
     let given = start .args in
-    let k = known-way (given .row) (head .loop .t) _ _ _ (c .before .before .enum-told2 .given .1) (at-sorted .sorted .ensures) in
-    pin-on (head .loop .inv) (start .pre .0) (at-if1 .if1 .left) (at-loop-test .loop-test .taken) (k .1) (omega arith) refl refl (k .0)
-    (bit-alone (given .row) (head .loop .t) (k .2 .2) (c .before .quick-bit .ensures)) (c .answer2 .ensures)
+    let known = known-way (given .row) (head .loop .t) _ _ _ (c .before .before .enum-told2 .given .1) (at-sorted .sorted .ensures) in
+    pin-on (head .loop .inv) (start .pre .0) (at-if1 .if1 .left) (at-loop-test .loop-test .taken) (known .1) (omega arith) refl refl (known .0)
+    (bit-alone (given .row) (head .loop .t) (known .2 .2) (c .before .quick-bit .ensures)) (c .answer2 .ensures)
 
 enum-told-3 : tie.Need-enum-told-3 Inv-loop μ-loop
 enum-told-3 c = search needs
@@ -236,8 +236,8 @@ quick-still-requires c κs =
     let at-sorted = c .before .before in
     let head = at-sorted .before .before .before in
     let given = head .before .before .before .before .before .before .args in
-    let k = known-way (given .row) (head .loop .t) _ _ _ (c .enum-told3 .given .1) (at-sorted .sorted .ensures) in
-    (k .2 .0, k .2 .1)
+    let known = known-way (given .row) (head .loop .t) _ _ _ (c .enum-told3 .given .1) (at-sorted .sorted .ensures) in
+    (known .2 .0, known .2 .1)
 
 answer-requires-3 : tie.Need-answer-requires-3 Inv-loop μ-loop
 answer-requires-3 c κs = search needs
@@ -247,8 +247,8 @@ slice-write-answers-3 c =
     let at-sorted = c .before .before .before .before in
     let head = at-sorted .before .before .before in
     let given = head .before .before .before .before .before .before .args in
-    let k = known-way (given .row) (head .loop .t) _ _ _ (c .before .before .enum-told3 .given .1) (at-sorted .sorted .ensures) in
-    ltb-true _ _ (k .0)
+    let known = known-way (given .row) (head .loop .t) _ _ _ (c .before .before .enum-told3 .given .1) (at-sorted .sorted .ensures) in
+    ltb-true _ _ (known .0)
 
 add-at-3 : tie.Need-add-at-3 Inv-loop μ-loop
 add-at-3 c =
@@ -257,8 +257,8 @@ add-at-3 c =
     let head = at-if1 .before .before in
     let start = head .before .before .before .before .before .before in
     let given = start .args in
-    let k = known-way (given .row) (head .loop .t) _ _ _ (c .before .before .enum-told3 .given .1) (at-sorted .sorted .ensures) in
-    omega (arith, k .1 .whole, at-if1 .if1 .left, start .good)
+    let known = known-way (given .row) (head .loop .t) _ _ _ (c .before .before .enum-told3 .given .1) (at-sorted .sorted .ensures) in
+    omega (arith, known .1 .whole, at-if1 .if1 .left, start .good)
 
 add-n-3 : tie.Need-add-n-3 Inv-loop μ-loop
 add-n-3 c =
@@ -279,9 +279,9 @@ loop-again-4 c =
     let head = at-loop-test .before in
     let start = head .before .before .before .before .before .before in
     let given = start .args in
-    let k = known-way (given .row) (head .loop .t) _ _ _ (c .before .before .enum-told3 .given .1) (at-sorted .sorted .ensures) in
-    pin-on (head .loop .inv) (start .pre .0) (at-if1 .if1 .left) (at-loop-test .loop-test .taken) (k .1) (omega arith) refl refl (k .0)
-    (still-alone (given .row) (head .loop .t) (k .2 .0) (k .2 .1) (c .before .quick-still .ensures)) (c .answer3 .ensures)
+    let known = known-way (given .row) (head .loop .t) _ _ _ (c .before .before .enum-told3 .given .1) (at-sorted .sorted .ensures) in
+    pin-on (head .loop .inv) (start .pre .0) (at-if1 .if1 .left) (at-loop-test .loop-test .taken) (known .1) (omega arith) refl refl (known .0)
+    (still-alone (given .row) (head .loop .t) (known .2 .0) (known .2 .1) (c .before .quick-still .ensures)) (c .answer3 .ensures)
 
 enum-told-4 : tie.Need-enum-told-4 Inv-loop μ-loop
 enum-told-4 c = search needs
@@ -291,8 +291,8 @@ quick-shift-requires c κs =
     let at-sorted = c .before .before in
     let head = at-sorted .before .before .before in
     let given = head .before .before .before .before .before .before .args in
-    let k = known-way (given .row) (head .loop .t) _ _ _ (c .enum-told4 .given .1) (at-sorted .sorted .ensures) in
-    (head .loop .inv .sound .unsettled .input .few, k .2 .0, k .2 .1, k .2 .2, k .2 .3)
+    let known = known-way (given .row) (head .loop .t) _ _ _ (c .enum-told4 .given .1) (at-sorted .sorted .ensures) in
+    (head .loop .inv .sound .unsettled .input .few, known .2 .0, known .2 .1, known .2 .2, known .2 .3)
 
 answer-requires-4 : tie.Need-answer-requires-4 Inv-loop μ-loop
 answer-requires-4 c κs = search needs
@@ -302,8 +302,8 @@ slice-write-answers-4 c =
     let at-sorted = c .before .before .before .before in
     let head = at-sorted .before .before .before in
     let given = head .before .before .before .before .before .before .args in
-    let k = known-way (given .row) (head .loop .t) _ _ _ (c .before .before .enum-told4 .given .1) (at-sorted .sorted .ensures) in
-    ltb-true _ _ (k .0)
+    let known = known-way (given .row) (head .loop .t) _ _ _ (c .before .before .enum-told4 .given .1) (at-sorted .sorted .ensures) in
+    ltb-true _ _ (known .0)
 
 add-at-4 : tie.Need-add-at-4 Inv-loop μ-loop
 add-at-4 c =
@@ -312,8 +312,8 @@ add-at-4 c =
     let head = at-if1 .before .before in
     let start = head .before .before .before .before .before .before in
     let given = start .args in
-    let k = known-way (given .row) (head .loop .t) _ _ _ (c .before .before .enum-told4 .given .1) (at-sorted .sorted .ensures) in
-    omega (arith, k .1 .whole, at-if1 .if1 .left, start .good)
+    let known = known-way (given .row) (head .loop .t) _ _ _ (c .before .before .enum-told4 .given .1) (at-sorted .sorted .ensures) in
+    omega (arith, known .1 .whole, at-if1 .if1 .left, start .good)
 
 add-n-4 : tie.Need-add-n-4 Inv-loop μ-loop
 add-n-4 c =
@@ -334,9 +334,9 @@ loop-again-5 c =
     let head = at-loop-test .before in
     let start = head .before .before .before .before .before .before in
     let given = start .args in
-    let k = known-way (given .row) (head .loop .t) _ _ _ (c .before .before .enum-told4 .given .1) (at-sorted .sorted .ensures) in
-    pin-on (head .loop .inv) (start .pre .0) (at-if1 .if1 .left) (at-loop-test .loop-test .taken) (k .1) (omega arith) refl refl (k .0)
-    (shift-alone (given .row) (head .loop .t) (k .2 .0) (k .2 .1) (k .2 .2) (k .2 .3) (c .before .quick-shift .ensures)) (c .answer4 .ensures)
+    let known = known-way (given .row) (head .loop .t) _ _ _ (c .before .before .enum-told4 .given .1) (at-sorted .sorted .ensures) in
+    pin-on (head .loop .inv) (start .pre .0) (at-if1 .if1 .left) (at-loop-test .loop-test .taken) (known .1) (omega arith) refl refl (known .0)
+    (shift-alone (given .row) (head .loop .t) (known .2 .0) (known .2 .1) (known .2 .2) (known .2 .3) (c .before .quick-shift .ensures)) (c .answer4 .ensures)
 
 enum-told-5 : tie.Need-enum-told-5 Inv-loop μ-loop
 enum-told-5 c = search needs
@@ -346,8 +346,8 @@ quick-whole-requires c κs =
     let at-sorted = c .before .before in
     let head = at-sorted .before .before .before in
     let given = head .before .before .before .before .before .before .args in
-    let k = known-way (given .row) (head .loop .t) _ _ _ (c .enum-told5 .given .1) (at-sorted .sorted .ensures) in
-    (head .loop .inv .sound .unsettled .input, k .2 .0, k .2 .1, k .2 .2, k .2 .3)
+    let known = known-way (given .row) (head .loop .t) _ _ _ (c .enum-told5 .given .1) (at-sorted .sorted .ensures) in
+    (head .loop .inv .sound .unsettled .input, known .2 .0, known .2 .1, known .2 .2, known .2 .3)
 
 answer-requires-5 : tie.Need-answer-requires-5 Inv-loop μ-loop
 answer-requires-5 c κs = search needs
@@ -357,8 +357,8 @@ slice-write-answers-5 c =
     let at-sorted = c .before .before .before .before in
     let head = at-sorted .before .before .before in
     let given = head .before .before .before .before .before .before .args in
-    let k = known-way (given .row) (head .loop .t) _ _ _ (c .before .before .enum-told5 .given .1) (at-sorted .sorted .ensures) in
-    ltb-true _ _ (k .0)
+    let known = known-way (given .row) (head .loop .t) _ _ _ (c .before .before .enum-told5 .given .1) (at-sorted .sorted .ensures) in
+    ltb-true _ _ (known .0)
 
 add-at-5 : tie.Need-add-at-5 Inv-loop μ-loop
 add-at-5 c =
@@ -367,8 +367,8 @@ add-at-5 c =
     let head = at-if1 .before .before in
     let start = head .before .before .before .before .before .before in
     let given = start .args in
-    let k = known-way (given .row) (head .loop .t) _ _ _ (c .before .before .enum-told5 .given .1) (at-sorted .sorted .ensures) in
-    omega (arith, k .1 .whole, at-if1 .if1 .left, start .good)
+    let known = known-way (given .row) (head .loop .t) _ _ _ (c .before .before .enum-told5 .given .1) (at-sorted .sorted .ensures) in
+    omega (arith, known .1 .whole, at-if1 .if1 .left, start .good)
 
 add-n-5 : tie.Need-add-n-5 Inv-loop μ-loop
 add-n-5 c =
@@ -389,9 +389,9 @@ loop-again-6 c =
     let head = at-loop-test .before in
     let start = head .before .before .before .before .before .before in
     let given = start .args in
-    let k = known-way (given .row) (head .loop .t) _ _ _ (c .before .before .enum-told5 .given .1) (at-sorted .sorted .ensures) in
-    pin-on (head .loop .inv) (start .pre .0) (at-if1 .if1 .left) (at-loop-test .loop-test .taken) (k .1) (omega arith) refl refl (k .0)
-    (whole-alone (given .row) (head .loop .t) (k .2 .3) (c .before .quick-whole .ensures)) (c .answer5 .ensures)
+    let known = known-way (given .row) (head .loop .t) _ _ _ (c .before .before .enum-told5 .given .1) (at-sorted .sorted .ensures) in
+    pin-on (head .loop .inv) (start .pre .0) (at-if1 .if1 .left) (at-loop-test .loop-test .taken) (known .1) (omega arith) refl refl (known .0)
+    (whole-alone (given .row) (head .loop .t) (known .2 .3) (c .before .quick-whole .ensures)) (c .answer5 .ensures)
 
 same-length-9 : tie.Need-same-length-9 Inv-loop μ-loop
 same-length-9 c =
