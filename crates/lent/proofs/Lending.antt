@@ -1,13 +1,12 @@
--- The outcome of each call, one law for each way through the rules.
-use Prim.Native.Nat.{ℕ, _+_, _-_, _*_, _%_, _^_, _≤_, _<_}
-use mathlib.Core.Path.{_≡_, sym, ap, _∙_, subst}
+-- What the lent buffers are refused with, and the outcome of preparing and of loading: one law for each way through the rules.
+use Prim.Native.Nat.{ℕ, _+_, _-_, _*_, _^_, _≤_, _<_}
+use mathlib.Core.Path.{_≡_, sym, ap, _∙_}
 use mathlib.Core.Bool.{Bool, true, false, not}
-use mathlib.Core.List.{List, [], _++_}
-use native.Mathlib.Nat.{mod-le, add-sub-cancel-left}
+use mathlib.Core.List.{List, _++_}
 use native.Mathlib.Omega.{arith}
-use lib.ListN.{length, take, drop, replicate}
+use lib.ListN.{length, replicate}
 use lib.Dec.{eqb}
-use borrow.Author.Tests.{eq-eqb, ne-eqb, le-leb, lt-leb, lt-ltb, le-ltb}
+use borrow.Author.Tests.{eq-eqb, ne-eqb, le-leb, lt-ltb, le-ltb}
 use Rattle.rules.specs.declared.Row.{Row}
 use Rattle.rules.specs.declared.State.{State}
 use Rattle.rules.specs.declared.Stored.{Stored}
@@ -15,13 +14,8 @@ use Rattle.rules.specs.World.{if_then_else_, worldOf, withStored}
 use Rattle.rules.specs.Device.{Widths, isDevice, rowOf, code, preparedState, prepared}
 use Rattle.rules.specs.Judge.{storable}
 use Rattle.rules.specs.Sound.{Lent}
-use Rattle.rules.specs.Call.{lentRefusal, preparedAs, prepareOutcome, poweredWith, loadedAs, loadOutcome, shownAs, cellPageOutcome, identificationPageOutcome}
+use Rattle.rules.specs.Call.{lentRefusal, preparedAs, prepareOutcome, poweredWith, loadedAs, loadOutcome}
 use Rattle.rules.proofs.Program.{lent-facts}
-use Rattle.rules.proofs.Widths.{of-device, start-aligned, page-room}
-
--- The row that was looked up has the widths.
-pub row-widths : (device : ℕ) (row : Row) → row ≡ rowOf device → Widths row
-row-widths device row e = subst Widths (sym e) (of-device device)
 
 -- A number from 1 to 4 is a device's.
 pub a-device : (device : ℕ) → 1 ≤ device → device ≤ 4 → isDevice device ≡ true
@@ -96,42 +90,3 @@ module _ (device : ℕ) (x : Stored) (n : ℕ) (en : n ≡ loadOutcome device x 
   pub load-done : n ≡ 0
       → loadedAs 0 (withStored (record { status = x .status; wel = false; locked = eqb (x .lock) 1 }) (s .cycle) (s .place .start) (s .place .left) s) ≡ loadOutcome device x
   load-done z = rw es (loads 0 (sym z ∙ en))
-
--- The pages.
-module _ (device : ℕ) (row : Row) (d : Bool) (er : row ≡ rowOf device) (ed : d ≡ isDevice device) where
-  module _ (cells : List ℕ) (address : ℕ) where
-    pub cell-device : not d ≡ true → shownAs 1 [] ≡ cellPageOutcome device cells address
-    unfolding cellPageOutcome
-    cell-device h = rw (← ed, h)
-
-    module _ (h : not d ≡ false) where
-      pub cell-length : (length cells ≡ row .cells → ⊥) → shownAs 2 [] ≡ cellPageOutcome device cells address
-      unfolding cellPageOutcome
-      cell-length a = rw (← ed, h, ← er, ne-eqb (length cells) (row .cells) a)
-
-      module _ (a : length cells ≡ row .cells) where
-        pub cell-past : row .cells ≤ address → shownAs 13 [] ≡ cellPageOutcome device cells address
-        unfolding cellPageOutcome
-        cell-past b = rw (← ed, h, ← er, eq-eqb (length cells) (row .cells) a, le-leb (row .cells) address b)
-
-        pub cell-shown : (p q : ℕ) → address < row .cells → p ≡ address % row .page → q ≡ address - p + row .page
-            → shownAs 0 (take (q - (address - p)) (drop (address - p) cells)) ≡ cellPageOutcome device cells address
-        unfolding cellPageOutcome
-        cell-shown p q b ep eq = rw (← ed, h, ← er, eq-eqb (length cells) (row .cells) a, lt-leb (row .cells) address b, eq, add-sub-cancel-left (address - p) (row .page), ep)
-
-  module _ (identification : List ℕ) where
-    pub page-device : not d ≡ true → shownAs 1 [] ≡ identificationPageOutcome device identification
-    unfolding identificationPageOutcome
-    page-device h = rw (← ed, h)
-
-    pub page-length : not d ≡ false → (length identification ≡ row .page → ⊥) → shownAs 3 [] ≡ identificationPageOutcome device identification
-    unfolding identificationPageOutcome
-    page-length h a = rw (← ed, h, ← er, ne-eqb (length identification) (row .page) a)
-
-    pub page-shown : not d ≡ false → length identification ≡ row .page → shownAs 0 identification ≡ identificationPageOutcome device identification
-    unfolding identificationPageOutcome
-    page-shown h a = rw (← ed, h, ← er, eq-eqb (length identification) (row .page) a)
-
--- The page of an address lies within the cells.
-pub page-inside : {row : Row} → Widths row → (a p : ℕ) → p ≡ a % row .page → a < row .cells → a - p + row .page ≤ row .cells
-page-inside {row} v a p e h = rw e (page-room v (a - a % row .page) (start-aligned row a) (omega (arith, h, mod-le a (row .page))))

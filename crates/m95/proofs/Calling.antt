@@ -21,7 +21,8 @@ use Rattle.rules.proofs.Program.{world-facts}
 use Rattle.rules.proofs.Runs.{Course, course}
 use Rattle.rules.proofs.Widths.{of-device}
 -- What is asked of a device number and of room, for those who stand on `m95`.
-pub use Rattle.lent.proofs.Lending.{row-widths, a-device, lent-room}
+pub use Rattle.rules.proofs.Widths.{row-widths}
+pub use Rattle.lent.proofs.Lending.{a-device, lent-room}
 
 -- A flag as a byte.
 pub flag-small : (b : Bool) → boolByte b ≤ 1

@@ -11,14 +11,14 @@ use rules::Event;
 use rules::State;
 use traces::records::Ran;
 
-// The calls that run nothing: preparing, what is stored, and the pages. Their contracts stand in `lent`.
+// The calls that run nothing: preparing and what is stored, whose contracts stand in `lent`, and the pages, in `pages`.
 pub use lent::loading::load;
 pub use lent::loading::stored;
 pub use lent::preparing::Prepared;
 pub use lent::preparing::prepare;
 pub use lent::preparing::prepared_state;
-pub use lent::showing::cell_page;
-pub use lent::showing::identification_page;
+pub use pages::cell_page;
+pub use pages::identification_page;
 
 // What an event gives back: its number, the answer (0, 1, or 2 for Z), and the state.
 pub struct Replied {

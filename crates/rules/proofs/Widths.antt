@@ -1,6 +1,6 @@
 -- Facts on address width and page size, over the width; and that every row of the device table has the widths that they ask for.
 use Prim.Native.Nat.{ℕ, zero, suc, _+_, _-_, _*_, _/_, _%_, _^_, _≤_, _<_}
-use mathlib.Core.Path.{_≡_, refl, subst}
+use mathlib.Core.Path.{_≡_, refl, sym, subst}
 use mathlib.Core.Bool.{Bool, true}
 use mathlib.Core.List.{List, [], _∷_, map}
 use native.Mathlib.Nat.{mod-lt, mul-mod-left, div-add-mod', div-lt-iff-lt-mul, mul-le-mul-right}
@@ -76,6 +76,10 @@ read-wide (row ∷ rows) e (suc i) other h = read-wide rows (and-right (isWide r
 pub of-device : (n : ℕ) → Widths (rowOf n)
 unfolding isWide
 of-device n = widths (rowOf n) (read-wide table refl (n - 1) m95040 refl)
+
+-- A row that was looked up.
+pub row-widths : (device : ℕ) (row : Row) → row ≡ rowOf device → Widths row
+row-widths device row e = subst Widths (sym e) (of-device device)
 
 module _ {row : Row} (v : Widths row) where
   pub page-positive : 0 < row .page

@@ -4,7 +4,8 @@ use Rattle.rules.specs.World.{worldOf}
 use lib.ListN.{length}
 use Prim.Native.Nat.{_+_}
 use mathlib.Core.Path.{_≡_, sym, _∙_, subst}
-use Rattle.lent.proofs.Lending.{row-widths, lent-fine}
+use Rattle.rules.proofs.Widths.{row-widths}
+use Rattle.lent.proofs.Lending.{lent-fine}
 use Rattle.m95.proofs.Calling.{world-lent, world-good, world-unsound}
 use borrow.Author.Needs.{needs}
 use Rattle.m95.proofs.world_refused.Statement.{statement}

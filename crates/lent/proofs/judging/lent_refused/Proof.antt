@@ -1,6 +1,7 @@
 -- `lent::judging::lent_refused` meets its contract.
 use native.Mathlib.Omega.{arith}
-use Rattle.lent.proofs.Lending.{row-widths, both-fit, lent-wrong}
+use Rattle.rules.proofs.Widths.{row-widths}
+use Rattle.lent.proofs.Lending.{both-fit, lent-wrong}
 use borrow.Author.Needs.{needs}
 use Rattle.lent.proofs.judging.lent_refused.Statement.{statement}
 use Rattle.lent.proofs.judging.lent_refused.Tie as tie

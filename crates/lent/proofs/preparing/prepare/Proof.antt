@@ -1,6 +1,7 @@
 -- `lent::preparing::prepare` meets its contract.
 use mathlib.Core.Path.{sym, _∙_}
-use Rattle.lent.proofs.Lending.{prepare-refused, prepare-done, row-widths, lent-fine, page-at}
+use Rattle.rules.proofs.Widths.{row-widths}
+use Rattle.lent.proofs.Lending.{prepare-refused, prepare-done, lent-fine, page-at}
 use borrow.Author.Needs.{needs}
 use Rattle.lent.proofs.preparing.prepare.Statement.{statement}
 use Rattle.lent.proofs.preparing.prepare.Tie as tie

@@ -1,9 +1,9 @@
--- `lent::showing::identification_page` meets its contract. The test of the length is handed to `omega`, so that its meaning counts and not its spelling.
+-- `pages::identification_page` meets its contract. The test of the length is handed to `omega`, so that its meaning counts and not its spelling.
 use native.Mathlib.Omega.{arith}
-use Rattle.lent.proofs.Lending.{page-device, page-length, page-shown}
+use Rattle.pages.proofs.Showing.{page-device, page-length, page-shown}
 use borrow.Author.Needs.{needs}
-use Rattle.lent.proofs.showing.identification_page.Statement.{statement}
-use Rattle.lent.proofs.showing.identification_page.Tie as tie
+use Rattle.pages.proofs.identification_page.Statement.{statement}
+use Rattle.pages.proofs.identification_page.Tie as tie
 
 row-of-requires : tie.Need-row-of-requires
 row-of-requires c κs = search needs

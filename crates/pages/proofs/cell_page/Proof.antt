@@ -1,10 +1,11 @@
--- `lent::showing::cell_page` meets its contract. The page's end is handed to `omega`, so that its value counts and not its spelling.
+-- `pages::cell_page` meets its contract. The page's end is handed to `omega`, so that its value counts and not its spelling.
 use native.Mathlib.Nat.{mod-le}
 use native.Mathlib.Omega.{arith}
-use Rattle.lent.proofs.Lending.{cell-device, cell-length, cell-past, cell-shown, row-widths, page-inside}
+use Rattle.rules.proofs.Widths.{row-widths}
+use Rattle.pages.proofs.Showing.{cell-device, cell-length, cell-past, cell-shown, page-inside}
 use borrow.Author.Needs.{needs}
-use Rattle.lent.proofs.showing.cell_page.Statement.{statement}
-use Rattle.lent.proofs.showing.cell_page.Tie as tie
+use Rattle.pages.proofs.cell_page.Statement.{statement}
+use Rattle.pages.proofs.cell_page.Tie as tie
 
 row-of-requires : tie.Need-row-of-requires
 row-of-requires c κs = search needs

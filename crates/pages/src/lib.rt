@@ -1,4 +1,4 @@
-// The two pages, shown without copying.
+// The two pages, shown without copying: a part of what is lent, and its number. `m95` hands both calls on as its own.
 
 ghost use mathlib.Core.Path.{_≡_};
 ghost use Rattle.rules.specs.Call.{shownAs, cellPageOutcome, identificationPageOutcome};

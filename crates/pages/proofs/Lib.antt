@@ -1,0 +1,2 @@
+-- The laws of the pages that are shown.
+pub mod Showing
