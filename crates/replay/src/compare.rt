@@ -5,6 +5,7 @@ ghost use mathlib.Core.Path.{_≡_};
 ghost use lib.ListN.{length};
 use crate::vector;
 use crate::vector::Header;
+use traces::records::Ran;
 
 // How many vectors were run, and how many differ.
 pub struct Tally {
@@ -75,6 +76,50 @@ fn take_back(bytes: &[u8], at: usize, count: usize, memory: &mut [u8], prepared:
     true
 }
 
+// Whether a memory is a prepared device's but for the bytes that a vector names, which stand in it.
+fn is_left(bytes: &[u8], at: usize, count: usize, memory: &mut [u8], prepared: &[u8]) -> bool
+    requires { ⌜ (at + count * 5 ≤ length (now bytes)) × (length (now memory) ≡ length (now prepared)) ⌝ }
+{
+    let are_named = take_back(bytes, at, count, memory, prepared);
+    are_named & is_same(memory, 0, memory.len(), prepared)
+}
+
+// Whether a run ended as a vector says: its number and counts, the status and the lock.
+fn is_ended(ran: Ran, h: Header) -> bool {
+    let after = ran.state;
+    let status = m95::status_byte(after);
+    let is_counted = (ran.number == h.number) & (ran.done == h.done) & (ran.taken == h.taken);
+    is_counted & (status == h.status) & (after.registers.locked == h.locked)
+}
+
+// Runs the trace of the vector at a place on a prepared device.
+fn run_trace(
+    bytes: &[u8],
+    at: usize,
+    h: Header,
+    cells: &mut [u8],
+    identification: &mut [u8],
+    latch: &mut [u8],
+    answers: &mut [u8],
+) -> Ran
+    requires { ⌜ (at + 24 + h .trace ≤ length (now bytes)) × (length (now bytes) ≤ 131072) ⌝ }
+{
+    let device = h.device;
+    let ready = m95::prepare(device, cells, identification, latch);
+    let start = at + 24;
+    let end = start + h.trace;
+    m95::run(
+        device,
+        ready.state,
+        cells,
+        identification,
+        latch,
+        &bytes[start..end],
+        answers,
+        h.trace,
+    )
+}
+
 // Whether a vector's run ends as it says, with its answers and its contents.
 fn is_good(
     bytes: &[u8],
@@ -90,35 +135,15 @@ fn is_good(
     requires { ⌜ (at + 24 + h .trace + h .done + h .cells * 5 + h .page * 5 ≤ length (now bytes)) × (length (now bytes) ≤ 131072) ⌝ }
     requires { ⌜ (length (now cells) ≡ length (now blank)) × (length (now identification) ≡ length (now factory)) ⌝ }
 {
-    let device = h.device;
-    m95::prepare(device, blank, factory, latch);
-    let ready = m95::prepare(device, cells, identification, latch);
-    let start = at + 24;
-    let end = start + h.trace;
-    let state = ready.state;
-    let limit = h.trace;
-    let ran = m95::run(
-        device,
-        state,
-        cells,
-        identification,
-        latch,
-        &bytes[start..end],
-        answers,
-        limit,
-    );
-    let after = ran.state;
-    let status = m95::status_byte(after);
-    let is_counted = (ran.number == h.number) & (ran.done == h.done) & (ran.taken == h.taken);
-    let is_told = (status == h.status) & (after.registers.locked == h.locked);
+    m95::prepare(h.device, blank, factory, latch);
+    let ran = run_trace(bytes, at, h, cells, identification, latch, answers);
+    let end = at + 24 + h.trace;
     let named = end + h.done;
     let paged = named + h.cells * 5;
     let is_answered = is_same(bytes, end, h.done, answers);
-    let is_stored = take_back(bytes, named, h.cells, cells, blank);
-    let is_marked = take_back(bytes, paged, h.page, identification, factory);
-    let are_cells = is_same(cells, 0, cells.len(), blank);
-    let is_page = is_same(identification, 0, identification.len(), factory);
-    is_counted & is_told & is_answered & is_stored & is_marked & are_cells & is_page
+    let are_cells = is_left(bytes, named, h.cells, cells, blank);
+    let is_page = is_left(bytes, paged, h.page, identification, factory);
+    is_ended(ran, h) & is_answered & are_cells & is_page
 }
 
 // Whether the vector at a place is good, in as much of the room as its device has cells and pages.

@@ -8,71 +8,98 @@ use Rattle.replay.proofs.compare.is_good.Tie as tie
 prepare-requires : tie.Need-prepare-requires
 prepare-requires c κs = search needs
 
-prepare-requires-2 : tie.Need-prepare-requires-2
-prepare-requires-2 c κs = search needs
-
-add-start : tie.Need-add-start
-add-start c = omega (arith, c .before .before .before .before .before .before .before .before .before .before .before .before .before .before .before .before .before .before .before .before .before .before .before .before .before .before .before .pre .0 .0, c .before .before .before .before .before .before .before .before .before .before .before .before .before .before .before .before .before .before .before .before .before .before .before .before .before .before .before .pre .0 .1)
+run-trace-requires : tie.Need-run-trace-requires
+run-trace-requires c κs = search needs
 
 add-end : tie.Need-add-end
-add-end c = omega (arith, c .before .before .before .before .before .before .before .before .before .before .before .before .before .before .before .before .before .before .before .before .before .before .before .before .before .before .before .before .pre .0 .0, c .before .before .before .before .before .before .before .before .before .before .before .before .before .before .before .before .before .before .before .before .before .before .before .before .before .before .before .before .pre .0 .1)
+add-end c =
+    let ran = c .before in
+    let ready = ran .before .before .before .before .before .before .before .before .before .before .before .before .before in
+    let start = ready .before .before .before .before .before .before .before .before .before .before .before .before .before .before .before .before in
+    omega (arith, start .pre .0 .0, start .pre .0 .1)
 
-sub-run : tie.Need-sub-run
-sub-run c = search needs
-
-part-run-start : tie.Need-part-run-start
-part-run-start c = search needs
-
-part-run-end : tie.Need-part-run-end
-part-run-end c = omega (arith, c .before .before .before .before .before .before .before .before .before .before .before .before .before .before .before .before .before .before .before .before .before .before .before .before .before .before .before .before .before .before .before .before .pre .0 .0, c .before .before .before .before .before .before .before .before .before .before .before .before .before .before .before .before .before .before .before .before .before .before .before .before .before .before .before .before .before .before .before .before .pre .0 .1)
-
-run-requires : tie.Need-run-requires
-run-requires c κs = search needs
-
-status-byte-requires : tie.Need-status-byte-requires
-status-byte-requires c κs = search needs
+add-end-2 : tie.Need-add-end-2
+add-end-2 c =
+    let ran = c .before .before in
+    let ready = ran .before .before .before .before .before .before .before .before .before .before .before .before .before in
+    let start = ready .before .before .before .before .before .before .before .before .before .before .before .before .before .before .before .before in
+    omega (arith, start .pre .0 .0, start .pre .0 .1)
 
 add-named : tie.Need-add-named
-add-named c = omega (arith, c .before .before .before .before .before .before .before .before .before .before .before .before .before .before .before .before .before .before .before .before .before .before .before .before .before .before .before .before .before .before .before .before .before .before .before .before .before .before .before .before .before .before .before .before .before .before .before .before .before .before .before .before .before .before .before .pre .0 .0, c .before .before .before .before .before .before .before .before .before .before .before .before .before .before .before .before .before .before .before .before .before .before .before .before .before .before .before .before .before .before .before .before .before .before .before .before .before .before .before .before .before .before .before .before .before .before .before .before .before .before .before .before .before .before .before .pre .0 .1)
+add-named c =
+    let ran = c .before .before .before in
+    let ready = ran .before .before .before .before .before .before .before .before .before .before .before .before .before in
+    let start = ready .before .before .before .before .before .before .before .before .before .before .before .before .before .before .before .before in
+    omega (arith, start .pre .0 .0, start .pre .0 .1)
 
 mul-paged : tie.Need-mul-paged
-mul-paged c = omega (arith, c .before .before .before .before .before .before .before .before .before .before .before .before .before .before .before .before .before .before .before .before .before .before .before .before .before .before .before .before .before .before .before .before .before .before .before .before .before .before .before .before .before .before .before .before .before .before .before .before .before .before .before .before .before .before .before .before .pre .0 .0, c .before .before .before .before .before .before .before .before .before .before .before .before .before .before .before .before .before .before .before .before .before .before .before .before .before .before .before .before .before .before .before .before .before .before .before .before .before .before .before .before .before .before .before .before .before .before .before .before .before .before .before .before .before .before .before .before .pre .0 .1)
+mul-paged c =
+    let ran = c .before .before .before .before in
+    let ready = ran .before .before .before .before .before .before .before .before .before .before .before .before .before in
+    let start = ready .before .before .before .before .before .before .before .before .before .before .before .before .before .before .before .before in
+    omega (arith, start .pre .0 .0, start .pre .0 .1)
 
 add-paged : tie.Need-add-paged
-add-paged c = omega (arith, c .before .before .before .before .before .before .before .before .before .before .before .before .before .before .before .before .before .before .before .before .before .before .before .before .before .before .before .before .before .before .before .before .before .before .before .before .before .before .before .before .before .before .before .before .before .before .before .before .before .before .before .before .before .before .before .before .pre .0 .0, c .before .before .before .before .before .before .before .before .before .before .before .before .before .before .before .before .before .before .before .before .before .before .before .before .before .before .before .before .before .before .before .before .before .before .before .before .before .before .before .before .before .before .before .before .before .before .before .before .before .before .before .before .before .before .before .before .pre .0 .1)
+add-paged c =
+    let ran = c .before .before .before .before in
+    let ready = ran .before .before .before .before .before .before .before .before .before .before .before .before .before in
+    let start = ready .before .before .before .before .before .before .before .before .before .before .before .before .before .before .before .before in
+    omega (arith, start .pre .0 .0, start .pre .0 .1)
 
 is-same-requires : tie.Need-is-same-requires
-is-same-requires c κs = omega (arith, c .before .before .before .before .before .before .before .before .before .before .before .before .before .before .before .before .before .before .before .before .before .before .before .before .before .before .before .before .before .before .before .before .before .before .before .before .before .before .before .before .before .before .before .before .before .before .before .before .before .before .before .before .before .before .before .before .before .pre .0 .0, c .before .before .before .before .before .before .before .before .before .before .before .before .before .before .before .before .before .before .before .before .before .before .before .before .before .before .before .before .before .before .before .before .before .before .before .before .before .before .before .before .before .before .before .before .before .before .before .before .before .before .before .before .before .before .before .before .before .pre .0 .1)
+is-same-requires c κs =
+    let ran = c .before .before .before .before .before in
+    let ready = ran .before .before .before .before .before .before .before .before .before .before .before .before .before in
+    let start = ready .before .before .before .before .before .before .before .before .before .before .before .before .before .before .before .before in
+    omega (arith, start .pre .0 .0, start .pre .0 .1)
 
-take-back-requires : tie.Need-take-back-requires
-take-back-requires c κs = (omega (arith, c .before .before .before .before .before .before .before .before .before .before .before .before .before .before .before .before .before .before .before .before .before .before .before .before .before .before .before .before .before .before .before .before .before .before .before .before .before .before .before .before .before .before .before .before .before .before .before .before .before .before .before .before .before .before .before .before .before .before .before .before .pre .0 .0, c .before .before .before .before .before .before .before .before .before .before .before .before .before .before .before .before .before .before .before .before .before .before .before .before .before .before .before .before .before .before .before .before .before .before .before .before .before .before .before .before .before .before .before .before .before .before .before .before .before .before .before .before .before .before .before .before .before .before .before .before .pre .0 .1), c .before .before .before .before .before .before .before .before .before .before .before .before .before .before .before .before .before .before .before .before .before .before .before .before .cells2 .given ∙ c .before .before .before .before .before .before .before .before .before .before .before .before .before .before .before .before .before .before .before .before .before .before .before .before .before .before .before .before .before .before .before .before .before .before .before .before .before .before .cells .given ∙ c .before .before .before .before .before .before .before .before .before .before .before .before .before .before .before .before .before .before .before .before .before .before .before .before .before .before .before .before .before .before .before .before .before .before .before .before .before .before .before .before .before .before .before .before .before .before .before .before .before .before .before .before .before .before .before .before .before .before .before .before .pre .1 .0 ∙ sym (c .before .before .before .before .before .before .before .before .before .before .before .before .before .before .before .before .before .before .before .before .before .before .before .before .before .before .before .before .before .before .before .before .before .before .before .before .before .before .before .before .before .before .before .before .before .before .before .before .blank .given))
+is-left-requires : tie.Need-is-left-requires
+is-left-requires c κs =
+    let ran = c .before .before .before .before .before .before .before .before in
+    let ready = ran .before .before .before .before .before .before .before .before .before .before .before .before .before in
+    let start = ready .before .before .before .before .before .before .before .before .before .before .before .before .before .before .before .before in
+    let cells = ran .before .before .before .before .before .before .cells .given in
+    (omega (arith, start .pre .0 .0, start .pre .0 .1), cells ∙ start .pre .1 .0 ∙ sym (ready .before .before .before .before .blank .given))
 
-take-back-requires-2 : tie.Need-take-back-requires-2
-take-back-requires-2 c κs = (omega (arith, c .before .before .before .before .before .before .before .before .before .before .before .before .before .before .before .before .before .before .before .before .before .before .before .before .before .before .before .before .before .before .before .before .before .before .before .before .before .before .before .before .before .before .before .before .before .before .before .before .before .before .before .before .before .before .before .before .before .before .before .before .before .before .before .before .before .pre .0 .0, c .before .before .before .before .before .before .before .before .before .before .before .before .before .before .before .before .before .before .before .before .before .before .before .before .before .before .before .before .before .before .before .before .before .before .before .before .before .before .before .before .before .before .before .before .before .before .before .before .before .before .before .before .before .before .before .before .before .before .before .before .before .before .before .before .before .pre .0 .1), c .before .before .before .before .before .before .before .before .before .before .before .before .before .before .before .before .before .before .before .before .before .before .before .before .before .before .before .identification2 .given ∙ c .before .before .before .before .before .before .before .before .before .before .before .before .before .before .before .before .before .before .before .before .before .before .before .before .before .before .before .before .before .before .before .before .before .before .before .before .before .before .before .before .before .identification .given ∙ c .before .before .before .before .before .before .before .before .before .before .before .before .before .before .before .before .before .before .before .before .before .before .before .before .before .before .before .before .before .before .before .before .before .before .before .before .before .before .before .before .before .before .before .before .before .before .before .before .before .before .before .before .before .before .before .before .before .before .before .before .before .before .before .before .before .pre .1 .1 ∙ sym (c .before .before .before .before .before .before .before .before .before .before .before .before .before .before .before .before .before .before .before .before .before .before .before .before .before .before .before .before .before .before .before .before .before .before .before .before .before .before .before .before .before .before .before .before .before .before .before .before .before .before .before .factory .given))
+is-left-requires-2 : tie.Need-is-left-requires-2
+is-left-requires-2 c κs =
+    let ran = c .before .before .before .before .before .before .before .before .before .before .before .before .before in
+    let ready = ran .before .before .before .before .before .before .before .before .before .before .before .before .before in
+    let start = ready .before .before .before .before .before .before .before .before .before .before .before .before .before .before .before .before in
+    let page = ran .before .before .before .before .identification .given in
+    (omega (arith, start .pre .0 .0, start .pre .0 .1), page ∙ start .pre .1 .1 ∙ sym (ready .before .before .factory .given))
 
-is-same-requires-2 : tie.Need-is-same-requires-2
-is-same-requires-2 c κs = search needs
-
-is-same-requires-3 : tie.Need-is-same-requires-3
-is-same-requires-3 c κs = search needs
+is-ended-requires : tie.Need-is-ended-requires
+is-ended-requires c κs = search needs
 
 same-length : tie.Need-same-length
-same-length c = c .before .before .before .before .before .before .before .before .before .before .before .before .cells3 .given ∙ c .before .before .before .before .before .before .before .before .before .before .before .before .before .before .before .before .before .before .before .before .before .before .before .before .before .before .before .before .before .before .before .before .before .before .before .before .before .before .cells2 .given ∙ c .before .before .before .before .before .before .before .before .before .before .before .before .before .before .before .before .before .before .before .before .before .before .before .before .before .before .before .before .before .before .before .before .before .before .before .before .before .before .before .before .before .before .before .before .before .before .before .before .before .before .before .before .cells .given
+same-length c =
+    let ran = c .before .before .before .before .before .before .before .before .before .before .before .before .before .before .before .before .before in
+    c .before .before .before .before .before .before .before .cells2 .given ∙ ran .before .before .before .before .before .before .cells .given
 
 same-length-2 : tie.Need-same-length-2
-same-length-2 c = c .before .before .before .before .before .before .before .identification3 .given ∙ c .before .before .before .before .before .before .before .before .before .before .before .before .before .before .before .before .before .before .before .before .before .before .before .before .before .before .before .before .before .before .before .before .before .before .before .before .identification2 .given ∙ c .before .before .before .before .before .before .before .before .before .before .before .before .before .before .before .before .before .before .before .before .before .before .before .before .before .before .before .before .before .before .before .before .before .before .before .before .before .before .before .before .before .before .before .before .before .before .before .before .before .before .identification .given
+same-length-2 c = search needs
 
 same-length-3 : tie.Need-same-length-3
-same-length-3 c = c .before .before .before .before .before .before .before .before .before .before .before .before .before .before .before .before .before .before .before .before .before .before .before .before .before .before .before .before .before .before .before .before .before .before .latch3 .given ∙ c .before .before .before .before .before .before .before .before .before .before .before .before .before .before .before .before .before .before .before .before .before .before .before .before .before .before .before .before .before .before .before .before .before .before .before .before .before .before .before .before .before .before .before .before .before .before .before .before .latch2 .given ∙ c .before .before .before .before .before .before .before .before .before .before .before .before .before .before .before .before .before .before .before .before .before .before .before .before .before .before .before .before .before .before .before .before .before .before .before .before .before .before .before .before .before .before .before .before .before .before .before .before .before .before .before .before .before .before .before .before .before .before .latch .given
+same-length-3 c =
+    let ran = c .before .before .before .before .before .before .before .before .before .before .before .before .before .before .before .before .before in
+    let ready = ran .before .before .before .before .before .before .before .before .before .before .before .before .before in
+    ran .before .before .latch2 .given ∙ ready .latch .given
 
 same-length-4 : tie.Need-same-length-4
-same-length-4 c = c .before .before .before .before .before .before .before .before .before .before .before .before .before .before .before .before .before .before .before .before .before .before .before .before .before .before .before .before .before .before .before .before .before .before .before .before .before .before .before .before .before .before .before .before .before .before .before .before .before .before .before .before .before .before .before .before .before .before .before .before .before .before .blank .given
+same-length-4 c =
+    let ran = c .before .before .before .before .before .before .before .before .before .before .before .before .before .before .before .before .before in
+    let ready = ran .before .before .before .before .before .before .before .before .before .before .before .before .before in
+    ready .before .before .before .before .blank .given
 
 same-length-5 : tie.Need-same-length-5
-same-length-5 c = c .before .before .before .before .before .before .before .before .before .before .before .before .before .before .before .before .before .before .before .before .before .before .before .before .before .before .before .before .before .before .before .before .before .before .before .before .before .before .before .before .before .before .before .before .before .before .before .before .before .before .before .before .before .before .before .before .before .before .before .before .factory .given
+same-length-5 c =
+    let ran = c .before .before .before .before .before .before .before .before .before .before .before .before .before .before .before .before .before in
+    let ready = ran .before .before .before .before .before .before .before .before .before .before .before .before .before in
+    ready .before .before .factory .given
 
 same-length-6 : tie.Need-same-length-6
-same-length-6 c = c .before .before .before .before .before .before .before .before .before .before .before .before .before .before .before .before .before .before .before .before .before .before .before .before .before .before .before .before .before .before .before .before .answers .given
+same-length-6 c = search needs
 
 returns : tie.Need-returns
 returns c = search needs
@@ -82,22 +109,16 @@ is-good-spec =
     tie.close
     (tie.spec
     prepare-requires
-    prepare-requires-2
-    add-start
+    run-trace-requires
     add-end
-    sub-run
-    part-run-start
-    part-run-end
-    run-requires
-    status-byte-requires
+    add-end-2
     add-named
     mul-paged
     add-paged
     is-same-requires
-    take-back-requires
-    take-back-requires-2
-    is-same-requires-2
-    is-same-requires-3
+    is-left-requires
+    is-left-requires-2
+    is-ended-requires
     same-length
     same-length-2
     same-length-3

@@ -46,7 +46,10 @@ returns-2 : tie.Need-returns-2 Inv-loop μ-loop
 returns-2 c = search needs
 
 is-good-here-requires : tie.Need-is-good-here-requires Inv-loop μ-loop
-is-good-here-requires c κs = (omega (arith, c .if2 .left, c .before .before .before .before .before .loop .inv, c .before .size-of .ensures), c .before .before .before .before .before .before .before .before .pre)
+is-good-here-requires c κs =
+    let head = c .before .before .before .before .before in
+    let start = head .before .before .before in
+    (omega (arith, c .if2 .left, head .loop .inv, c .before .size-of .ensures), start .pre)
 
 one-requires : tie.Need-one-requires Inv-loop μ-loop
 one-requires c κs = search needs
@@ -55,13 +58,21 @@ add-requires-3 : tie.Need-add-requires-3 Inv-loop μ-loop
 add-requires-3 c κs = search needs
 
 add-at : tie.Need-add-at Inv-loop μ-loop
-add-at c = omega (arith, c .before .before .before .if2 .left, c .before .before .before .before .before .before .before .before .loop .inv, c .before .before .before .before .before .before .before .before .before .before .before .pre)
+add-at c =
+    let head = c .before .before .before .before .before .before .before .before in
+    let start = head .before .before .before in
+    omega (arith, c .before .before .before .if2 .left, head .loop .inv, start .pre)
 
 loop-less : tie.Need-loop-less Inv-loop μ-loop
-loop-less c = omega (arith, c .before .before .before .if2 .left, c .before .before .before .before .before .before .before .before .loop .inv, c .before .before .before .before .size-of .ensures)
+loop-less c =
+    let size = c .before .before .before .before in
+    let head = size .before .before .before .before in
+    omega (arith, c .before .before .before .if2 .left, head .loop .inv, size .size-of .ensures)
 
 loop-again : tie.Need-loop-again Inv-loop μ-loop
-loop-again c = omega (arith, c .before .before .before .if2 .left, c .before .before .before .before .before .before .before .before .loop .inv)
+loop-again c =
+    let head = c .before .before .before .before .before .before .before .before in
+    omega (arith, c .before .before .before .if2 .left, head .loop .inv)
 
 returns-3 : tie.Need-returns-3 Inv-loop μ-loop
 returns-3 c = search needs

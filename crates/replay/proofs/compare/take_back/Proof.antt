@@ -17,13 +17,19 @@ loop-holds : tie.Need-loop-holds Inv-loop μ-loop
 loop-holds c = (omega arith, refl)
 
 mul-place : tie.Need-mul-place Inv-loop μ-loop
-mul-place c = omega (arith, c .before .before .before .before .before .pre .0, c .before .loop .inv .0)
+mul-place c =
+    let start = c .before .before .before .before .before in
+    omega (arith, start .pre .0, c .before .loop .inv .0)
 
 add-place : tie.Need-add-place Inv-loop μ-loop
-add-place c = omega (arith, c .before .before .before .before .before .pre .0, c .before .loop .inv .0)
+add-place c =
+    let start = c .before .before .before .before .before in
+    omega (arith, start .pre .0, c .before .loop .inv .0)
 
 four-at-requires : tie.Need-four-at-requires Inv-loop μ-loop
-four-at-requires c κs = omega (arith, c .before .before .before .before .before .pre .0, c .before .loop .inv .0)
+four-at-requires c κs =
+    let start = c .before .before .before .before .before in
+    omega (arith, start .pre .0, c .before .loop .inv .0)
 
 same-length : tie.Need-same-length Inv-loop μ-loop
 same-length c = c .before .before .before .loop .inv .1
@@ -35,19 +41,30 @@ slice-read-if2 : tie.Need-slice-read-if2 Inv-loop μ-loop
 slice-read-if2 c = omega arith
 
 add-if2 : tie.Need-add-if2 Inv-loop μ-loop
-add-if2 c = omega (arith, c .before .before .before .before .before .before .before .before .pre .0, c .before .before .before .before .loop .inv .0)
+add-if2 c =
+    let head = c .before .before .before .before in
+    let start = head .before .before .before .before in
+    omega (arith, start .pre .0, head .loop .inv .0)
 
 shared-slice-read-if2 : tie.Need-shared-slice-read-if2 Inv-loop μ-loop
-shared-slice-read-if2 c = omega (arith, c .before .before .before .before .before .before .before .before .before .pre .0, c .before .before .before .before .before .loop .inv .0)
+shared-slice-read-if2 c =
+    let head = c .before .before .before .before .before in
+    let start = head .before .before .before .before in
+    omega (arith, start .pre .0, head .loop .inv .0)
 
 same-length-2 : tie.Need-same-length-2 Inv-loop μ-loop
-same-length-2 c = c .before .before .before .before .before .before .loop .inv .1
+same-length-2 c =
+    let head = c .before .before .before .before .before .before in
+    head .loop .inv .1
 
 returns-2 : tie.Need-returns-2 Inv-loop μ-loop
 returns-2 c = search needs
 
 shared-slice-read-memory : tie.Need-shared-slice-read-memory Inv-loop μ-loop
-shared-slice-read-memory c = omega (arith, c .before .before .before .before .before .before .before .before .before .before .before .pre .1, c .before .before .before .before .before .before .before .loop .inv .1)
+shared-slice-read-memory c =
+    let head = c .before .before .before .before .before .before .before in
+    let start = head .before .before .before .before in
+    omega (arith, start .pre .1, head .loop .inv .1)
 
 slice-write-memory : tie.Need-slice-write-memory Inv-loop μ-loop
 slice-write-memory c = omega arith
@@ -59,7 +76,9 @@ loop-less : tie.Need-loop-less Inv-loop μ-loop
 loop-less c = omega arith
 
 loop-again : tie.Need-loop-again Inv-loop μ-loop
-loop-again c = (omega arith, length-set (c .before .before .before .before .before .before .before .loop .memory) _ _ ∙ c .before .before .before .before .before .before .before .loop .inv .1)
+loop-again c =
+    let head = c .before .before .before .before .before .before .before in
+    (omega arith, length-set (head .loop .memory) _ _ ∙ head .loop .inv .1)
 
 same-length-3 : tie.Need-same-length-3 Inv-loop μ-loop
 same-length-3 c = c .before .loop .inv .1
