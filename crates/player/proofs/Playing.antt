@@ -52,7 +52,8 @@ moved-more b l from i place el ep h =
     let long : length (take i s) ≡ i = length-take-le i s (omega (arith, length-drop from b)) in
     let at : from + i ≡ length (take i s) + from = omega (arith, long) in
     let back : i + from ≡ from + i = omega arith in
-    let read : getD (moved b from i) (from + i) 0 ≡ getD s i 0 = ap (λ (k : ℕ). getD (moved b from i) k 0) at ∙ getD-append-add (take i s) (drop i b) from 0 ∙ getD-drop i b from 0 ∙ ap (λ (k : ℕ). getD b k 0) back ∙ sym (getD-drop from b i 0) in
+    let behind : getD (moved b from i) (from + i) 0 ≡ getD (drop i b) from 0 = ap (λ (k : ℕ). getD (moved b from i) k 0) at ∙ getD-append-add (take i s) (drop i b) from 0 in
+    let read : getD (moved b from i) (from + i) 0 ≡ getD s i 0 = behind ∙ getD-drop i b from 0 ∙ ap (λ (k : ℕ). getD b k 0) back ∙ sym (getD-drop from b i 0) in
     let rest : drop i b ≡ getD b i 0 ∷ drop (suc i) b = drop-cons b i 0 (omega arith) in
     let first : take (suc i) s ≡ take i s ++ (getD s i 0 ∷ []) = take-suc s i 0 (omega (arith, length-drop from b)) in
     ap (λ (m : List ℕ). set m i (getD m place 0)) el
@@ -84,6 +85,10 @@ known device w z = lent-known device (w .cells) (w .identification) (w .latch) (
     go zero e = e
     go (suc n) e = absurd (omega (arith, rw (e, ne-eqb (suc n) 0 (λ h. absurd (omega arith))) at z))
 
+-- There is an answer byte for each byte of a piece.
+pub answered : (buf answers : List ℕ) (filled : ℕ) → filled ≤ length buf → length buf ≤ length answers → length (take filled buf) ≤ length answers
+answered buf answers filled inside room = omega (arith, inside, room, length-take-le filled buf inside)
+
 -- A piece of a run on a world that is not refused, with an answer byte for each byte of it.
 module _ (device : ℕ) (w : World) (t a : List ℕ) (limit : ℕ) (p : Progress) (z : worldRefusal device w ≡ 0) (enough : length t ≤ length a) (e : p ≡ runOutcome device w t a limit) where
   piece : Course (rowOf device) t (length a) limit p
@@ -104,8 +109,8 @@ left-fits buf part c k m h l e =
     omega (arith, h, l, e, length-take-le c buf h, length-append (take c buf) (part ++ postOf c k buf), length-append part (postOf c k buf))
 
 -- What every device needs of the room.
-pub room : (device : ℕ) (row : Row) → row ≡ rowOf device → (row .cells ≤ 262_144) × (row .page ≤ 256)
-room device row e = rw e (entry (device - 1))
+pub room : (device : ℕ) {row : Row} → row ≡ rowOf device → (row .cells ≤ 262_144) × (row .page ≤ 256)
+room device e = rw e (entry (device - 1))
   where
     entry : (i : ℕ) → (getD table i m95040 .cells ≤ 262_144) × (getD table i m95040 .page ≤ 256)
     entry zero = (lit≤ tt, lit≤ tt)

@@ -76,9 +76,8 @@ fn play_piece(
     trace: i32,
     output: i32,
 ) -> Played
-    requires { ⌜
-        (worldRefusal device (worldOf (p .state) (now cells) (now identification) (now latch)) ≡ 0) × (p .filled ≤ length (now buf))
-        × (length (now buf) ≤ length (now answers)) × (length (now buf) ≤ 65536) ⌝ }
+    requires { ⌜ worldRefusal device (worldOf (p .state) (now cells) (now identification) (now latch)) ≡ 0 ⌝ }
+    requires { ⌜ (p .filled ≤ length (now buf)) × (length (now buf) ≤ length (now answers)) × (length (now buf) ≤ 65536) ⌝ }
     ensures { λ r. ⌜ (worldRefusal device (worldOf (r .state) (now (cells .exit)) (now (identification .exit)) (now (latch .exit))) ≡ 0) × (r .filled ≤ length (now (buf .exit))) ⌝ }
 {
     let filled = p.filled;
@@ -124,9 +123,8 @@ pub fn play_all(
     trace: i32,
     output: i32,
 ) -> Played
-    requires { ⌜
-        (worldRefusal device (worldOf (start .state) (now cells) (now identification) (now latch)) ≡ 0) × (start .filled ≤ length (now buf))
-        × (length (now buf) ≤ length (now answers)) × (length (now buf) ≤ 65536) ⌝ }
+    requires { ⌜ worldRefusal device (worldOf (start .state) (now cells) (now identification) (now latch)) ≡ 0 ⌝ }
+    requires { ⌜ (start .filled ≤ length (now buf)) × (length (now buf) ≤ length (now answers)) × (length (now buf) ≤ 65536) ⌝ }
     ensures { λ r. ⌜ worldRefusal device (worldOf (r .state) (now (cells .exit)) (now (identification .exit)) (now (latch .exit))) ≡ 0 ⌝ }
 {
     let mut p = start;

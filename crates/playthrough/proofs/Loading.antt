@@ -17,7 +17,8 @@ use Rattle.rules.proofs.Incident.{prepared-sound, prepared-lent}
 use Rattle.player.proofs.Playing.{lent-known}
 
 -- A prepared chip with what its file holds is not refused.
-module _ (device : ℕ) (cells identification latch : List ℕ) (z : lentRefusal device cells identification latch ≡ 0) (n : ℕ) (s : State) (c i l : List ℕ) (ew : preparedAs n (worldOf s c i l) ≡ prepareOutcome device cells identification latch) where
+module _ (device : ℕ) (cells identification latch : List ℕ) (z : lentRefusal device cells identification latch ≡ 0)
+    (n : ℕ) (s : State) (c i l : List ℕ) (ew : preparedAs n (worldOf s c i l) ≡ prepareOutcome device cells identification latch) where
   ready : worldOf s c i l ≡ prepared (rowOf device)
   unfolding prepareOutcome
   ready = ap (λ x. x .world) ew ∙ rw z

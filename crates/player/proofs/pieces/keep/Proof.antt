@@ -21,28 +21,52 @@ loop-holds : tie.Need-loop-holds Inv-loop μ-loop
 loop-holds c = (refl, omega arith, refl, refl)
 
 add-buf : tie.Need-add-buf Inv-loop μ-loop
-add-buf c = omega (arith, c .before .before .pre .0, c .before .before .pre .1)
+add-buf c =
+    let start = c .before .before in
+    omega (arith, start .pre .0, start .pre .1)
 
 slice-read-buf : tie.Need-slice-read-buf Inv-loop μ-loop
-slice-read-buf c = omega (arith, c .before .before .before .pre .0, c .before .before .before .pre .1)
+slice-read-buf c =
+    let start = c .before .before .before in
+    omega (arith, start .pre .0, start .pre .1)
 
 slice-write-buf : tie.Need-slice-write-buf Inv-loop μ-loop
-slice-write-buf c = omega (arith, c .before .before .before .pre .0, c .before .before .before .pre .1)
+slice-write-buf c =
+    let start = c .before .before .before in
+    omega (arith, start .pre .0, start .pre .1)
 
 add-i : tie.Need-add-i Inv-loop μ-loop
-add-i c = omega (arith, c .before .before .before .pre .0, c .before .before .before .pre .1)
+add-i c =
+    let start = c .before .before .before in
+    omega (arith, start .pre .0, start .pre .1)
 
 loop-less : tie.Need-loop-less Inv-loop μ-loop
 loop-less c = omega arith
 
 loop-again : tie.Need-loop-again Inv-loop μ-loop
-loop-again c = (c .before .before .loop .inv .0, omega arith, length-set (c .before .before .loop .buf) (c .before .before .loop .i) _ ∙ c .before .before .loop .inv .2, moved-more (c .before .before .before .args .buf .now) (c .before .before .loop .buf) (c .before .before .before .args .from) (c .before .before .loop .i) _ (c .before .before .loop .inv .3) (omega arith) (omega (arith, c .before .before .before .pre .0, c .before .before .before .pre .1, c .before .before .loop .inv .0)))
+loop-again c =
+    let head = c .before .before in
+    let start = head .before in
+    let kept = head .loop .inv in (
+      kept .0,
+      omega arith,
+      length-set (head .loop .buf) (head .loop .i) _ ∙ kept .2,
+      moved-more (start .args .buf .now) (head .loop .buf) (start .args .from) (head .loop .i) _ (kept .3) (omega arith) (omega (arith, start .pre .0, start .pre .1, kept .0)),
+    )
 
 same-length : tie.Need-same-length Inv-loop μ-loop
 same-length c = c .before .loop .inv .2
 
 returns : tie.Need-returns Inv-loop μ-loop
-returns c = let n = c .before .before .args .to - c .before .before .args .from in let e : c .before .loop .i ≡ n = omega arith in (refl, ap (λ (l : List ℕ). take n l) (c .before .loop .inv .3 ∙ ap (moved (c .before .before .args .buf .now) (c .before .before .args .from)) e) ∙ moved-all (c .before .before .args .buf .now) (c .before .before .args .from) n (omega (arith, c .before .before .pre .0, c .before .before .pre .1)))
+returns c =
+    let head = c .before in
+    let start = head .before in
+    let old = start .args .buf .now in
+    let from = start .args .from in
+    let n = start .args .to - from in
+    let e : head .loop .i ≡ n = omega arith in
+    let all = moved-all old from n (omega (arith, start .pre .0, start .pre .1)) in
+    (refl, ap (λ (l : List ℕ). take n l) (head .loop .inv .3 ∙ ap (moved old from) e) ∙ all)
 
 pub keep-spec : {M : Type 1} → statement M
 keep-spec =

@@ -14,26 +14,50 @@ use Rattle.player.proofs.pieces.play_all.Tie as tie
 
 abbrev Inv-loop : tie.InvT-loop
 Inv-loop device cells₀ identification₀ latch₀ buf₀ answers₀ trace output p₀ turns₀ cells identification latch buf answers p turns =
-    (worldRefusal device (worldOf (p .state) cells identification latch) ≡ 0) × (p .filled ≤ length buf) × (length buf ≡ length buf₀) × (length answers ≡ length answers₀) × (length cells ≡ length cells₀) × (length identification ≡ length identification₀) × (length latch ≡ length latch₀)
+    (worldRefusal device (worldOf (p .state) cells identification latch) ≡ 0) × (p .filled ≤ length buf) × (length buf ≡ length buf₀)
+    × (length answers ≡ length answers₀) × (length cells ≡ length cells₀) × (length identification ≡ length identification₀) × (length latch ≡ length latch₀)
 
 abbrev μ-loop : tie.MeasureT-loop
 μ-loop device cells₀ identification₀ latch₀ buf₀ answers₀ trace output p₀ turns₀ cells identification latch buf answers p turns =
     turns
 
 loop-holds : tie.Need-loop-holds Inv-loop μ-loop
-loop-holds c = (c .before .before .before .before .before .pre .0, c .before .before .before .before .before .pre .1, refl, refl, refl, refl, refl)
+loop-holds c =
+    let start = c .before .before .before .before .before in
+    (start .pre .0, start .pre .1 .0, refl, refl, refl, refl, refl)
 
 play-piece-requires : tie.Need-play-piece-requires Inv-loop μ-loop
-play-piece-requires c κs = (c .before .before .before .before .before .before .before .loop .inv .0, c .before .before .before .before .before .before .before .loop .inv .1, omega (arith, c .before .before .before .before .before .before .before .before .before .before .before .before .before .pre .2, c .before .before .before .before .before .before .before .loop .inv .2, c .before .before .before .before .before .before .before .loop .inv .3), omega (arith, c .before .before .before .before .before .before .before .before .before .before .before .before .before .pre .3, c .before .before .before .before .before .before .before .loop .inv .2))
+play-piece-requires c κs =
+    let head = c .before .before .before .before .before .before .before in
+    let start = head .before .before .before .before .before .before in
+    let kept = head .loop .inv in
+    (kept .0, (kept .1, omega (arith, start .pre .1 .1, kept .2, kept .3), omega (arith, start .pre .1 .2, kept .2)))
 
 sub-turns : tie.Need-sub-turns Inv-loop μ-loop
-sub-turns c = ltb-true 0 (c .before .before .before .before .before .before .before .before .before .before .before .before .before .before .before .before .before .before .loop .turns) (and-left (ltb 0 (c .before .before .before .before .before .before .before .before .before .before .before .before .before .before .before .before .before .before .loop .turns)) (not (c .before .before .before .before .before .before .before .before .before .before .before .before .before .before .before .before .before .before .loop .p .ended)) (c .before .before .before .before .before .before .before .before .before .before .before .before .before .before .before .before .if1 .taken))
+sub-turns c =
+    let going = c .before .before .before .before .before .before .before .before .before .before .before .before .before .before .before .before in
+    let head = going .before .before in
+    ltb-true 0 (head .loop .turns) (and-left (ltb 0 (head .loop .turns)) (not (head .loop .p .ended)) (going .if1 .taken))
 
 loop-less : tie.Need-loop-less Inv-loop μ-loop
-loop-less c = omega (arith, ltb-true 0 (c .before .before .before .before .before .before .before .before .before .before .before .before .before .before .before .before .before .before .loop .turns) (and-left (ltb 0 (c .before .before .before .before .before .before .before .before .before .before .before .before .before .before .before .before .before .before .loop .turns)) (not (c .before .before .before .before .before .before .before .before .before .before .before .before .before .before .before .before .before .before .loop .p .ended)) (c .before .before .before .before .before .before .before .before .before .before .before .before .before .before .before .before .if1 .taken)))
+loop-less c =
+    let going = c .before .before .before .before .before .before .before .before .before .before .before .before .before .before .before .before in
+    let head = going .before .before in
+    omega (arith, ltb-true 0 (head .loop .turns) (and-left (ltb 0 (head .loop .turns)) (not (head .loop .p .ended)) (going .if1 .taken)))
 
 loop-again : tie.Need-loop-again Inv-loop μ-loop
-loop-again c = (c .before .before .before .before .before .before .before .before .before .before .play-piece .ensures .0, c .before .before .before .before .before .before .before .before .before .before .play-piece .ensures .1, c .before .before .before .buf .given ∙ c .before .before .before .before .before .before .before .before .before .before .before .before .before .before .before .before .before .before .loop .inv .2, c .before .answers .given ∙ c .before .before .before .before .before .before .before .before .before .before .before .before .before .before .before .before .before .before .loop .inv .3, c .before .before .before .before .before .before .before .before .before .cells .given ∙ c .before .before .before .before .before .before .before .before .before .before .before .before .before .before .before .before .before .before .loop .inv .4, c .before .before .before .before .before .before .before .identification .given ∙ c .before .before .before .before .before .before .before .before .before .before .before .before .before .before .before .before .before .before .loop .inv .5, c .before .before .before .before .before .latch .given ∙ c .before .before .before .before .before .before .before .before .before .before .before .before .before .before .before .before .before .before .loop .inv .6)
+loop-again c =
+    let done = c .before .before .before .before .before .before .before .before .before .before in
+    let head = done .before .before .before .before .before .before .before .before in
+    let kept = head .loop .inv in (
+      done .play-piece .ensures .0,
+      done .play-piece .ensures .1,
+      c .before .before .before .buf .given ∙ kept .2,
+      c .before .answers .given ∙ kept .3,
+      c .before .before .before .before .before .before .before .before .before .cells .given ∙ kept .4,
+      c .before .before .before .before .before .before .before .identification .given ∙ kept .5,
+      c .before .before .before .before .before .latch .given ∙ kept .6,
+    )
 
 same-length : tie.Need-same-length Inv-loop μ-loop
 same-length c = c .before .before .loop .inv .4

@@ -1,11 +1,10 @@
 -- `player::pieces::play_piece` meets its contract.
-use Prim.Native.Nat.{_-_}
+use Prim.Native.Nat.{_-_, _≤_}
 use lib.ListN.{length}
-use borrow.Rule.Slice.PartMut.{putMid}
 use native.Mathlib.Omega.{arith}
 use mathlib.Core.Path.{_≡_, sym}
 use lib.Seq.{length-take-le}
-use Rattle.player.proofs.Playing.{piece-done, piece-taken, piece-world, left-fits}
+use Rattle.player.proofs.Playing.{answered, piece-done, piece-taken, piece-world, left-fits}
 use borrow.Author.Needs.{needs}
 use Rattle.player.proofs.pieces.play_piece.Statement.{statement}
 use Rattle.player.proofs.pieces.play_piece.Tie as tie
@@ -14,28 +13,49 @@ slice-reshare-prefix-run : tie.Need-slice-reshare-prefix-run
 slice-reshare-prefix-run c = search needs
 
 slice-aggregate-run : tie.Need-slice-aggregate-run
-slice-aggregate-run c = sym (length-take-le (c .before .before .before .before .before .before .before .before .before .before .args .p .filled) (c .before .before .before .before .before .before .before .before .before .before .args .buf .now) (c .before .before .before .before .before .before .before .before .before .before .pre .1))
+slice-aggregate-run c =
+    let start = c .before .before .before .before .before .before .before .before .before .before in
+    sym (length-take-le (start .args .p .filled) (start .args .buf .now) (start .pre .1 .0))
 
 run-requires : tie.Need-run-requires
 run-requires c κs = search needs
 
 slice-reshare-prefix-write-all : tie.Need-slice-reshare-prefix-write-all
-slice-reshare-prefix-write-all c = piece-done (c .before .before .before .before .before .before .before .before .before .before .before .before .before .before .before .before .before .before .before .before .before .args .device) _ _ _ (c .before .before .before .before .before .before .before .before .before .before .before .before .before .before .before .before .before .before .before .before .before .args .p .filled) _ (c .before .before .before .before .before .before .before .before .before .before .before .before .before .before .before .before .before .before .before .before .before .pre .0) (omega (arith, c .before .before .before .before .before .before .before .before .before .before .before .before .before .before .before .before .before .before .before .before .before .pre .1, c .before .before .before .before .before .before .before .before .before .before .before .before .before .before .before .before .before .before .before .before .before .pre .2, length-take-le (c .before .before .before .before .before .before .before .before .before .before .before .before .before .before .before .before .before .before .before .before .before .args .p .filled) (c .before .before .before .before .before .before .before .before .before .before .before .before .before .before .before .before .before .before .before .before .before .args .buf .now) (c .before .before .before .before .before .before .before .before .before .before .before .before .before .before .before .before .before .before .before .before .before .pre .1))) (c .before .before .before .before .before .before .before .before .before .run .ensures)
+slice-reshare-prefix-write-all c =
+    let ran = c .before .before .before .before .before .before .before .before .before in
+    let start = ran .before .before .before .before .before .before .before .before .before .before .before .before in
+    let room = answered (start .args .buf .now) (start .args .answers .now) (start .args .p .filled) (start .pre .1 .0) (start .pre .1 .1) in
+    piece-done (start .args .device) _ _ _ (start .args .p .filled) _ (start .pre .0) room (ran .run .ensures)
 
 slice-aggregate-write-all : tie.Need-slice-aggregate-write-all
-slice-aggregate-write-all c = sym (length-take-le _ _ (piece-done (c .before .before .before .before .before .before .before .before .before .before .before .before .before .before .before .before .before .before .before .before .before .before .args .device) _ _ _ (c .before .before .before .before .before .before .before .before .before .before .before .before .before .before .before .before .before .before .before .before .before .before .args .p .filled) _ (c .before .before .before .before .before .before .before .before .before .before .before .before .before .before .before .before .before .before .before .before .before .before .pre .0) (omega (arith, c .before .before .before .before .before .before .before .before .before .before .before .before .before .before .before .before .before .before .before .before .before .before .pre .1, c .before .before .before .before .before .before .before .before .before .before .before .before .before .before .before .before .before .before .before .before .before .before .pre .2, length-take-le (c .before .before .before .before .before .before .before .before .before .before .before .before .before .before .before .before .before .before .before .before .before .before .args .p .filled) (c .before .before .before .before .before .before .before .before .before .before .before .before .before .before .before .before .before .before .before .before .before .before .args .buf .now) (c .before .before .before .before .before .before .before .before .before .before .before .before .before .before .before .before .before .before .before .before .before .before .pre .1))) (c .before .before .before .before .before .before .before .before .before .before .run .ensures)))
+slice-aggregate-write-all c =
+    let ran = c .before .before .before .before .before .before .before .before .before .before in
+    let start = ran .before .before .before .before .before .before .before .before .before .before .before .before in
+    let room = answered (start .args .buf .now) (start .args .answers .now) (start .args .p .filled) (start .pre .1 .0) (start .pre .1 .1) in
+    sym (length-take-le _ _ (piece-done (start .args .device) _ _ _ (start .args .p .filled) _ (start .pre .0) room (ran .run .ensures)))
 
 write-all-requires : tie.Need-write-all-requires
 write-all-requires c κs = search needs
 
 keep-requires : tie.Need-keep-requires
-keep-requires c κs = (omega (arith, piece-taken (c .before .before .before .before .before .before .before .before .before .before .before .before .before .before .before .before .before .before .before .before .before .before .before .before .args .device) _ _ _ (c .before .before .before .before .before .before .before .before .before .before .before .before .before .before .before .before .before .before .before .before .before .before .before .before .args .p .filled) _ (c .before .before .before .before .before .before .before .before .before .before .before .before .before .before .before .before .before .before .before .before .before .before .before .before .pre .0) (omega (arith, c .before .before .before .before .before .before .before .before .before .before .before .before .before .before .before .before .before .before .before .before .before .before .before .before .pre .1, c .before .before .before .before .before .before .before .before .before .before .before .before .before .before .before .before .before .before .before .before .before .before .before .before .pre .2, length-take-le (c .before .before .before .before .before .before .before .before .before .before .before .before .before .before .before .before .before .before .before .before .before .before .before .before .args .p .filled) (c .before .before .before .before .before .before .before .before .before .before .before .before .before .before .before .before .before .before .before .before .before .before .before .before .args .buf .now) (c .before .before .before .before .before .before .before .before .before .before .before .before .before .before .before .before .before .before .before .before .before .before .before .before .pre .1))) (c .before .before .before .before .before .before .before .before .before .before .before .before .run .ensures), length-take-le (c .before .before .before .before .before .before .before .before .before .before .before .before .before .before .before .before .before .before .before .before .before .before .before .before .args .p .filled) (c .before .before .before .before .before .before .before .before .before .before .before .before .before .before .before .before .before .before .before .before .before .before .before .before .args .buf .now) (c .before .before .before .before .before .before .before .before .before .before .before .before .before .before .before .before .before .before .before .before .before .before .before .before .pre .1)), c .before .before .before .before .before .before .before .before .before .before .before .before .before .before .before .before .before .before .before .before .before .before .before .before .pre .1)
+keep-requires c κs =
+    let ran = c .before .before .before .before .before .before .before .before .before .before .before .before in
+    let start = ran .before .before .before .before .before .before .before .before .before .before .before .before in
+    let room = answered (start .args .buf .now) (start .args .answers .now) (start .args .p .filled) (start .pre .1 .0) (start .pre .1 .1) in
+    let taken = piece-taken (start .args .device) _ _ _ (start .args .p .filled) _ (start .pre .0) room (ran .run .ensures) in
+    (omega (arith, taken, length-take-le (start .args .p .filled) (start .args .buf .now) (start .pre .1 .0)), start .pre .1 .0)
 
 sub-read-on : tie.Need-sub-read-on
-sub-read-on c = omega (arith, c .before .before .keep .ensures .0, c .before .before .before .before .before .before .before .before .before .before .before .before .before .before .before .before .before .before .before .before .before .before .before .before .before .before .before .pre .1, c .before .buf .given)
+sub-read-on c =
+    let ran = c .before .before .before .before .before .before .before .before .before .before .before .before .before .before .before in
+    let start = ran .before .before .before .before .before .before .before .before .before .before .before .before in
+    omega (arith, c .before .before .keep .ensures .0, start .pre .1 .0, c .before .buf .given)
 
 part-read-on-start : tie.Need-part-read-on-start
-part-read-on-start c = omega (arith, c .before .before .keep .ensures .0, c .before .before .before .before .before .before .before .before .before .before .before .before .before .before .before .before .before .before .before .before .before .before .before .before .before .before .before .pre .1, c .before .buf .given)
+part-read-on-start c =
+    let ran = c .before .before .before .before .before .before .before .before .before .before .before .before .before .before .before in
+    let start = ran .before .before .before .before .before .before .before .before .before .before .before .before in
+    omega (arith, c .before .before .keep .ensures .0, start .pre .1 .0, c .before .buf .given)
 
 part-read-on-end : tie.Need-part-read-on-end
 part-read-on-end c = search needs
@@ -44,7 +64,18 @@ read-on-requires : tie.Need-read-on-requires
 read-on-requires c κs = search needs
 
 add-t39 : tie.Need-add-t39
-add-t39 c = let e : length (putMid (c .before .before .before .before .before .before .before .keep .result) (length (c .before .before .before .before .before .before .before .keep .last .0) - c .before .before .before .before .before .before .before .keep .result) (c .before .before .before .before .before .before .before .keep .last .0) (c .before .before .before .read-on .last .1 .1 .0)) ≡ length (c .before .before .before .before .before .before .before .keep .last .0) = search needs in let g : length (c .before .before .before .before .before .before .before .keep .last .0) ≡ length (c .before .before .before .before .before .before .before .before .before .before .before .before .before .before .before .before .before .before .before .before .before .before .before .before .before .before .before .before .before .before .before .before .args .buf .now) = c .before .before .before .before .before .before .buf .given in omega (arith, g, c .before .before .before .before .before .before .before .before .before .before .before .before .before .before .before .before .before .before .before .before .before .before .before .before .before .before .before .before .before .before .before .before .pre .3, left-fits (c .before .before .before .before .before .before .before .keep .last .0) (c .before .before .before .read-on .last .1 .1 .0) (c .before .before .before .before .before .before .before .keep .result) (length (c .before .before .before .before .before .before .before .keep .last .0) - c .before .before .before .before .before .before .before .keep .result) (c .before .before .before .read-on .result .count) (omega (arith, c .before .before .before .before .before .before .before .keep .ensures .0, c .before .before .before .before .before .before .before .before .before .before .before .before .before .before .before .before .before .before .before .before .before .before .before .before .before .before .before .before .before .before .before .before .pre .1, c .before .before .before .before .before .before .buf .given)) (c .before .before .before .read-on .ensures .0) e)
+add-t39 c =
+    let read = c .before .before .before in
+    let kept = read .before .before .before .before in
+    let ran = kept .before .before .before .before .before .before .before .before .before .before .before .before .before in
+    let start = ran .before .before .before .before .before .before .before .before .before .before .before .before in
+    let left = kept .keep .result in
+    let old = kept .keep .last .0 in
+    let part = read .read-on .last .1 .1 .0 in
+    let whole = c .before .before .buf2 .given .1 in
+    let same : length old ≡ length (start .args .buf .now) = read .before .before .before .buf .given in
+    let inside : left ≤ length old = omega (arith, kept .keep .ensures .0, start .pre .1 .0, same) in
+    omega (arith, same, start .pre .1 .2, left-fits old part left (length old - left) (read .read-on .result .count) inside (read .read-on .ensures .0) whole)
 
 wrapping-add-u64-requires : tie.Need-wrapping-add-u64-requires
 wrapping-add-u64-requires c κs = search needs
@@ -68,7 +99,20 @@ same-length-5 : tie.Need-same-length-5
 same-length-5 c = search needs
 
 returns : tie.Need-returns
-returns c = let e : length (putMid (c .before .before .before .before .before .before .before .before .before .before .before .keep .result) (length (c .before .before .before .before .before .before .before .before .before .before .before .keep .last .0) - c .before .before .before .before .before .before .before .before .before .before .before .keep .result) (c .before .before .before .before .before .before .before .before .before .before .before .keep .last .0) (c .before .before .before .before .before .before .before .read-on .last .1 .1 .0)) ≡ length (c .before .before .before .before .before .before .before .before .before .before .before .keep .last .0) = search needs in (piece-world (c .before .before .before .before .before .before .before .before .before .before .before .before .before .before .before .before .before .before .before .before .before .before .before .before .before .before .before .before .before .before .before .before .before .before .before .before .args .device) _ _ _ (c .before .before .before .before .before .before .before .before .before .before .before .before .before .before .before .before .before .before .before .before .before .before .before .before .before .before .before .before .before .before .before .before .before .before .before .before .args .p .filled) _ (c .before .before .before .before .before .before .before .before .before .before .before .before .before .before .before .before .before .before .before .before .before .before .before .before .before .before .before .before .before .before .before .before .before .before .before .before .pre .0) (omega (arith, c .before .before .before .before .before .before .before .before .before .before .before .before .before .before .before .before .before .before .before .before .before .before .before .before .before .before .before .before .before .before .before .before .before .before .before .before .pre .1, c .before .before .before .before .before .before .before .before .before .before .before .before .before .before .before .before .before .before .before .before .before .before .before .before .before .before .before .before .before .before .before .before .before .before .before .before .pre .2, length-take-le (c .before .before .before .before .before .before .before .before .before .before .before .before .before .before .before .before .before .before .before .before .before .before .before .before .before .before .before .before .before .before .before .before .before .before .before .before .args .p .filled) (c .before .before .before .before .before .before .before .before .before .before .before .before .before .before .before .before .before .before .before .before .before .before .before .before .before .before .before .before .before .before .before .before .before .before .before .before .args .buf .now) (c .before .before .before .before .before .before .before .before .before .before .before .before .before .before .before .before .before .before .before .before .before .before .before .before .before .before .before .before .before .before .before .before .before .before .before .before .pre .1))) (c .before .before .before .before .before .before .before .before .before .before .before .before .before .before .before .before .before .before .before .before .before .before .before .before .run .ensures), omega (arith, e, left-fits (c .before .before .before .before .before .before .before .before .before .before .before .keep .last .0) (c .before .before .before .before .before .before .before .read-on .last .1 .1 .0) (c .before .before .before .before .before .before .before .before .before .before .before .keep .result) (length (c .before .before .before .before .before .before .before .before .before .before .before .keep .last .0) - c .before .before .before .before .before .before .before .before .before .before .before .keep .result) (c .before .before .before .before .before .before .before .read-on .result .count) (omega (arith, c .before .before .before .before .before .before .before .before .before .before .before .keep .ensures .0, c .before .before .before .before .before .before .before .before .before .before .before .before .before .before .before .before .before .before .before .before .before .before .before .before .before .before .before .before .before .before .before .before .before .before .before .before .pre .1, c .before .before .before .before .before .before .before .before .before .before .buf .given)) (c .before .before .before .before .before .before .before .read-on .ensures .0) e))
+returns c =
+    let read = c .before .before .before .before .before .before .before in
+    let kept = read .before .before .before .before in
+    let ran = kept .before .before .before .before .before .before .before .before .before .before .before .before .before in
+    let start = ran .before .before .before .before .before .before .before .before .before .before .before .before in
+    let room = answered (start .args .buf .now) (start .args .answers .now) (start .args .p .filled) (start .pre .1 .0) (start .pre .1 .1) in
+    let left = kept .keep .result in
+    let old = kept .keep .last .0 in
+    let part = read .read-on .last .1 .1 .0 in
+    let whole = c .before .before .before .before .before .before .buf2 .given .1 in
+    let inside : left ≤ length old = omega (arith, kept .keep .ensures .0, start .pre .1 .0, read .before .before .before .buf .given) in (
+      piece-world (start .args .device) _ _ _ (start .args .p .filled) _ (start .pre .0) room (ran .run .ensures),
+      omega (arith, whole, left-fits old part left (length old - left) (read .read-on .result .count) inside (read .read-on .ensures .0) whole),
+    )
 
 pub play-piece-spec : {M : Type 1} → statement M
 play-piece-spec =
