@@ -16,6 +16,20 @@ use player::pieces;
 use player::pieces::Played;
 use rules::State;
 
+// Closes ANSWERS after a run, and answers whether it is not whole. Trouble is told.
+fn is_unwritten(ran: Played, output: i32, trace: &[u8], answers: &[u8]) -> bool {
+    if ran.unread {
+        fail(b"play: cannot read to its end the trace ", trace);
+        return ran.unwritten;
+    }
+    let is_closed = libc::close(output) == 0;
+    if ran.unwritten | !is_closed {
+        fail(b"play: cannot write the answers ", answers);
+        return true;
+    }
+    false
+}
+
 // Runs the trace into ANSWERS, from what was read of it. Trouble is told, and marked in what is handed back.
 fn play_into(
     device: u8,
@@ -50,15 +64,8 @@ fn play_into(
         input,
         output,
     );
-    if played.unread {
-        fail(b"play: cannot read to its end the trace ", trace);
-        return played;
-    }
-    let is_closed = libc::close(output) == 0;
-    played.unwritten = played.unwritten | !is_closed;
-    if played.unwritten {
-        fail(b"play: cannot write the answers ", answers);
-    }
+    let is_cut = is_unwritten(played, output, trace, answers);
+    played.unwritten = is_cut;
     played
 }
 
