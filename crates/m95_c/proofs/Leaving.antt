@@ -4,14 +4,14 @@ use mathlib.Core.Path.{_≡_, sym, ap, _∙_, subst}
 use mathlib.Core.Bool.{Bool, true, false, not, _&&_}
 use mathlib.Core.List.{List}
 use native.Mathlib.Omega.{arith}
-use lib.Dec.{eqb, ltb}
+use lib.Dec.{eqb, leb, ltb}
 use lib.ListN.{length}
 use borrow.Author.Tests.{ltb-false, eq-eqb, ne-eqb, le-leb, lt-leb, not-true, not-false}
 use Rattle.rules.specs.declared.Event.{Event}
 use Rattle.rules.specs.declared.Row.{Row}
 use Rattle.rules.specs.declared.State.{State}
 use Rattle.rules.specs.declared.Stored.{Stored}
-use Rattle.rules.specs.World.{World, worldOf}
+use Rattle.rules.specs.World.{if_then_else_, World, worldOf}
 use Rattle.rules.specs.Device.{isDevice, rowOf}
 use Rattle.rules.specs.Send.{statusByte}
 use Rattle.rules.specs.Trace.{lengthOf, pinEvent, progressOf}
@@ -24,14 +24,15 @@ use Rattle.m95_c.specs.StateBytes.{isState, stateOf, noState, bytesOf}
 use Rattle.m95_c.specs.Left.{deviceOf, sizesAs, sizesOf, Buffers, buffersOf, preparedAs, prepareLeft, byteFor, loadedAs, loadLeft, eventRefusal}
 use Rattle.m95_c.specs.Left.{eventOf, repliedAs, eventLeft, ranAs, runLeft, toldAs, statusLeft, keptAs, storedLeft, placedAs, cellPageLeft, identificationPageLeft}
 
-pub device-small : (n : ℕ) → n ≤ 255 → n ≡ deviceOf n
-device-small n h = rw (le-leb n 255 h)
+-- A number that fits a byte is kept, as `deviceOf` and `byteFor` have it; another gives way to what stands for none.
+pub byte-kept : (none n : ℕ) → n ≤ 255 → n ≡ (if leb n 255 then n else none)
+byte-kept none n h = rw (le-leb n 255 h)
 
-pub device-large : (n : ℕ) → 255 < n → 0 ≡ deviceOf n
-device-large n h = rw (lt-leb n 255 h)
+pub none-taken : (none n : ℕ) → 255 < n → none ≡ (if leb n 255 then n else none)
+none-taken none n h = rw (lt-leb n 255 h)
 
 -- The sizes.
-module _ (n d : ℕ) (ed : d ≡ deviceOf n) (row : Row) (er : row ≡ rowOf d) (t : Bool) (et : t ≡ isDevice d) where
+module _ (n : ℕ) {d : ℕ} (ed : d ≡ deviceOf n) {row : Row} (er : row ≡ rowOf d) {t : Bool} (et : t ≡ isDevice d) where
   pub sizes-told : t ≡ true → sizesAs (row .cells) (row .page) ≡ sizesOf n
   sizes-told h = rw (← ed, ← et, h, er)
 
@@ -39,23 +40,22 @@ module _ (n d : ℕ) (ed : d ≡ deviceOf n) (row : Row) (er : row ≡ rowOf d) 
   sizes-none h = rw (← ed, ← et, h)
 
 -- Preparing.
-module _ (n d : ℕ) (ed : d ≡ deviceOf n) (b : Buffers) where
-  pub prepare-roomless : (s : State) (m : ℕ) → (length (b .state) ≡ 36 → ⊥) → s ≡ noState → m ≡ worldRefusal d (worldOf s (b .cells) (b .identification) (b .latch)) → preparedAs m b ≡ prepareLeft n b
+module _ (n : ℕ) {d : ℕ} (ed : d ≡ deviceOf n) (b : Buffers) where
+  pub prepare-roomless : {s : State} {m : ℕ} → (length (b .state) ≡ 36 → ⊥) → s ≡ noState
+      → m ≡ worldRefusal d (worldOf s (b .cells) (b .identification) (b .latch))
+      → preparedAs m b ≡ prepareLeft n b
   unfolding prepareLeft
-  prepare-roomless s m h es em = rw (em, es, ed, ne-eqb (length (b .state)) 36 h)
+  prepare-roomless h es em = rw (em, es, ed, ne-eqb (length (b .state)) 36 h)
 
-  pub prepare-room : (s : State) (m : ℕ) (bytes c i l : List ℕ) → length (b .state) ≡ 36 → call.preparedAs m (worldOf s c i l) ≡ prepareOutcome d (b .cells) (b .identification) (b .latch) → bytes ≡ bytesOf s → preparedAs m (buffersOf bytes c i l) ≡ prepareLeft n b
+  pub prepare-room : {s : State} {m : ℕ} {bytes c i l : List ℕ} → length (b .state) ≡ 36
+      → call.preparedAs m (worldOf s c i l) ≡ prepareOutcome d (b .cells) (b .identification) (b .latch)
+      → bytes ≡ bytesOf s
+      → preparedAs m (buffersOf bytes c i l) ≡ prepareLeft n b
   unfolding prepareLeft
-  prepare-room s m bytes c i l h eo es = rw (eq-eqb (length (b .state)) 36 h, ← ed, ← eo, es)
+  prepare-room h eo es = rw (eq-eqb (length (b .state)) 36 h, ← ed, ← eo, es)
 
 -- Loading.
-pub byte-small : (n : ℕ) → n ≤ 255 → n ≡ byteFor n
-byte-small n h = rw (le-leb n 255 h)
-
-pub byte-large : (n : ℕ) → 255 < n → 255 ≡ byteFor n
-byte-large n h = rw (lt-leb n 255 h)
-
-module _ (n d status lock p q : ℕ) (ed : d ≡ deviceOf n) (ep : p ≡ byteFor status) (eq : q ≡ byteFor lock) (room : List ℕ) (m : ℕ) (s : State)
+module _ (n status lock : ℕ) {d p q : ℕ} (ed : d ≡ deviceOf n) (ep : p ≡ byteFor status) (eq : q ≡ byteFor lock) (room : List ℕ) {m : ℕ} {s : State}
     (eo : call.loadedAs m s ≡ loadOutcome d (storedAs p q)) where
   pub load-refused : (m ≡ 0 → ⊥) → loadedAs m room ≡ loadLeft n room status lock
   unfolding loadLeft
@@ -66,9 +66,9 @@ module _ (n d status lock p q : ℕ) (ed : d ≡ deviceOf n) (ep : p ≡ byteFor
     unfolding loadLeft
     load-roomless h = rw (← ed, ← ep, ← eq, ← eo, z, ne-eqb (length room) 36 h)
 
-    pub load-room : length room ≡ 36 → (b : List ℕ) → b ≡ bytesOf s → loadedAs 0 b ≡ loadLeft n room status lock
+    pub load-room : length room ≡ 36 → {b : List ℕ} → b ≡ bytesOf s → loadedAs 0 b ≡ loadLeft n room status lock
     unfolding loadLeft
-    load-room h b eb = rw (← ed, ← ep, ← eq, ← eo, z, eq-eqb (length room) 36 h, eb)
+    load-room h eb = rw (← ed, ← ep, ← eq, ← eo, z, eq-eqb (length room) 36 h, eb)
 
 -- An event by its kind and its number.
 module _ (kind value : ℕ) where
@@ -85,13 +85,13 @@ module _ (kind value : ℕ) where
     unfolding eventRefusal
     event-some e = rw (ne-eqb (lengthOf kind) 0 h, e)
 
-  pub event-pin : (e : Event) → kind ≡ 1 → e ≡ pinEvent value → e ≡ eventOf kind value
+  pub event-pin : {e : Event} → kind ≡ 1 → e ≡ pinEvent value → e ≡ eventOf kind value
   unfolding eventOf
-  event-pin e h ee = ee ∙ rw h
+  event-pin h ee = ee ∙ rw h
 
-  pub event-wait : (w : ℕ) → kind ≡ 2 → w ≡ min value 4_294_967_295 → Event.Wait w ≡ eventOf kind value
+  pub event-wait : {w : ℕ} → kind ≡ 2 → w ≡ min value 4_294_967_295 → Event.Wait w ≡ eventOf kind value
   unfolding eventOf
-  event-wait w h ew = rw (ew, h)
+  event-wait h ew = rw (ew, h)
 
   pub event-power : (kind ≡ 1 → ⊥) → (kind ≡ 2 → ⊥) → Event.Power ≡ eventOf kind value
   unfolding eventOf
@@ -99,81 +99,90 @@ module _ (kind value : ℕ) where
 
   pub pin-small : eventRefusal kind value ≡ 0 → kind ≡ 1 → value ≤ 9
   unfolding eventRefusal
-  pin-small e h = if-elim (λ (x : ℕ). x ≡ 0 → value ≤ 9) (ltb 9 value) (λ _ k. absurd (omega (arith, k))) (λ k _. ltb-false 9 value k) (rw (h) at e)
+  pin-small e h =
+      if-elim (λ (x : ℕ). x ≡ 0 → value ≤ 9) (ltb 9 value) (λ _ k. absurd (omega (arith, k))) (λ k _. ltb-false 9 value k) (rw (h) at e)
 
 -- A device whose buffers are not refused has a state of the right length.
-pub state-long : (d : ℕ) (s : State) (b c i l : List ℕ) (m : ℕ) → s ≡ stateOf b → m ≡ worldRefusal d (worldOf s c i l) → m ≡ 0 → length b ≡ 36
+pub state-long : (d : ℕ) {s : State} (b c i l : List ℕ) {m : ℕ} → s ≡ stateOf b → m ≡ worldRefusal d (worldOf s c i l) → m ≡ 0 → length b ≡ 36
 unfolding stateOf
-state-long d s b c i l m es em z = whole (subst (λ (x : State). x .input .bits ≤ 7) es (fine d (worldOf s c i l) (sym em ∙ z) .0 .unsettled .input .few))
+state-long d {s} b c i l es em z =
+    whole (subst (λ (x : State). x .input .bits ≤ 7) es (fine d (worldOf s c i l) (sym em ∙ z) .0 .unsettled .input .few))
   where
     whole : stateOf b .input .bits ≤ 7 → length b ≡ 36
     whole = if-elim (λ (x : State). x .input .bits ≤ 7 → length b ≡ 36) (isState b) (λ h _. state-length b h) (λ _ k. absurd (omega (arith, k)))
 
 -- An event.
-module _ (n d : ℕ) (ed : d ≡ deviceOf n) (b : Buffers) (s : State) (es : s ≡ stateOf (b .state)) (m : ℕ) (em : m ≡ worldRefusal d (worldOf s (b .cells) (b .identification) (b .latch))) (kind value : ℕ) where
+module _ (n : ℕ) {d : ℕ} (ed : d ≡ deviceOf n) (b : Buffers) {s : State} (es : s ≡ stateOf (b .state))
+    {m : ℕ} (em : m ≡ worldRefusal d (worldOf s (b .cells) (b .identification) (b .latch))) (kind value : ℕ) where
   pub event-whole : (m ≡ 0 → ⊥) → repliedAs m 2 b ≡ eventLeft n b kind value
   unfolding eventLeft
   event-whole h = rw (← ed, ← es, ← em, ne-eqb m 0 h, ne-eqb m 0 h)
 
-  module _ (z : m ≡ 0) (k : ℕ) (ek : k ≡ eventRefusal kind value) where
+  module _ (z : m ≡ 0) {k : ℕ} (ek : k ≡ eventRefusal kind value) where
     pub event-bad : (k ≡ 0 → ⊥) → repliedAs k 2 b ≡ eventLeft n b kind value
     unfolding eventLeft
     event-bad h = rw (← ed, ← es, ← em, z, ← ek, ne-eqb k 0 h, ne-eqb k 0 h)
 
-    module _ (zk : k ≡ 0) (e : Event) (ee : e ≡ eventOf kind value) (r a : ℕ) (t : State) (c i l : List ℕ) (eo : call.repliedAs r a (worldOf t c i l) ≡ eventOutcome d (worldOf s (b .cells) (b .identification) (b .latch)) e) where
+    module _ (zk : k ≡ 0) {e : Event} (ee : e ≡ eventOf kind value) {r a : ℕ} {t : State} {c i l : List ℕ}
+        (eo : call.repliedAs r a (worldOf t c i l) ≡ eventOutcome d (worldOf s (b .cells) (b .identification) (b .latch)) e) where
       kept : (r ≡ 0 → ⊥) → worldOf t c i l ≡ worldOf s (b .cells) (b .identification) (b .latch)
       unfolding eventOutcome
       kept h = ap (λ (o : call.Replied). o .world) eo ∙ rw (← ap (λ (o : call.Replied). o .number) eo, ne-eqb r 0 h)
 
       pub event-refused : (r ≡ 0 → ⊥) → repliedAs r 2 (buffersOf (b .state) c i l) ≡ eventLeft n b kind value
       unfolding eventLeft
-      event-refused h = rw (← ed, ← es, ← em, z, ← ek, zk, ← ee, ← eo, ne-eqb r 0 h) (ap (λ (w : World). repliedAs r 2 (buffersOf (b .state) (w .cells) (w .identification) (w .latch))) (kept h))
+      event-refused h =
+          rw (← ed, ← es, ← em, z, ← ek, zk, ← ee, ← eo, ne-eqb r 0 h)
+          (ap (λ (w : World). repliedAs r 2 (buffersOf (b .state) (w .cells) (w .identification) (w .latch))) (kept h))
 
-      pub event-done : r ≡ 0 → (bytes : List ℕ) → bytes ≡ bytesOf t → repliedAs 0 a (buffersOf bytes c i l) ≡ eventLeft n b kind value
+      pub event-done : r ≡ 0 → {bytes : List ℕ} → bytes ≡ bytesOf t → repliedAs 0 a (buffersOf bytes c i l) ≡ eventLeft n b kind value
       unfolding eventLeft
-      event-done h bytes eb = rw (← ed, ← es, ← em, z, ← ek, zk, ← ee, ← eo, h, eb)
+      event-done h eb = rw (← ed, ← es, ← em, z, ← ek, zk, ← ee, ← eo, h, eb)
 
 -- A trace.
-module _ (n d : ℕ) (ed : d ≡ deviceOf n) (b : Buffers) (s : State) (es : s ≡ stateOf (b .state)) (m : ℕ) (em : m ≡ worldRefusal d (worldOf s (b .cells) (b .identification) (b .latch))) (trace answers : List ℕ) (limit : ℕ) where
+module _ (n : ℕ) {d : ℕ} (ed : d ≡ deviceOf n) (b : Buffers) {s : State} (es : s ≡ stateOf (b .state))
+    {m : ℕ} (em : m ≡ worldRefusal d (worldOf s (b .cells) (b .identification) (b .latch))) (trace answers : List ℕ) (limit : ℕ) where
   pub run-whole : (m ≡ 0 → ⊥) → ranAs m 0 0 answers b ≡ runLeft n b trace answers limit
   unfolding runLeft
   run-whole h = rw (← ed, ← es, ← em, ne-eqb m 0 h)
 
-  pub run-left : m ≡ 0 → (r taken done : ℕ) (t : State) (c i l after bytes : List ℕ) → progressOf r taken done (worldOf t c i l) after ≡ runOutcome d (worldOf s (b .cells) (b .identification) (b .latch)) trace answers limit → bytes ≡ bytesOf t
+  pub run-left : m ≡ 0 → {r taken done : ℕ} {t : State} {c i l after bytes : List ℕ}
+      → progressOf r taken done (worldOf t c i l) after ≡ runOutcome d (worldOf s (b .cells) (b .identification) (b .latch)) trace answers limit
+      → bytes ≡ bytesOf t
       → ranAs r taken done after (buffersOf bytes c i l) ≡ runLeft n b trace answers limit
   unfolding runLeft
-  run-left z r taken done t c i l after bytes eo eb = rw (← ed, ← es, ← em, z, ← eo, eb)
+  run-left z eo eb = rw (← ed, ← es, ← em, z, ← eo, eb)
 
 -- The status.
-module _ (b : List ℕ) (t : Bool) (et : t ≡ isState b) where
+module _ (b : List ℕ) {t : Bool} (et : t ≡ isState b) where
   pub status-none : not t ≡ true → toldAs 5 0 ≡ statusLeft b
   unfolding statusLeft
   status-none h = rw (← et, not-true t h)
 
-  pub status-told : (s : State) (n : ℕ) → not t ≡ false → s ≡ stateOf b → n ≡ statusByte s → toldAs 0 n ≡ statusLeft b
+  pub status-told : {s : State} {n : ℕ} → not t ≡ false → s ≡ stateOf b → n ≡ statusByte s → toldAs 0 n ≡ statusLeft b
   unfolding statusLeft stateOf
-  status-told s n h es en = rw (← et, not-false t h, en, es, ← et, not-false t h)
+  status-told h es en = rw (← et, not-false t h, en, es, ← et, not-false t h)
 
 -- What is stored.
-module _ (b : List ℕ) (t : Bool) (et : t ≡ isState b) where
+module _ (b : List ℕ) {t : Bool} (et : t ≡ isState b) where
   pub stored-none : not t ≡ true → keptAs 5 0 0 ≡ storedLeft b
   unfolding storedLeft
   stored-none h = rw (← et, not-true t h)
 
-  pub stored-told : (s : State) (x : Stored) → not t ≡ false → s ≡ stateOf b → x ≡ storedIn s → keptAs 0 (x .status) (x .lock) ≡ storedLeft b
+  pub stored-told : {s : State} {x : Stored} → not t ≡ false → s ≡ stateOf b → x ≡ storedIn s → keptAs 0 (x .status) (x .lock) ≡ storedLeft b
   unfolding storedLeft stateOf
-  stored-told s x h es ex = rw (← et, not-false t h, ex, es, ← et, not-false t h)
+  stored-told h es ex = rw (← et, not-false t h, ex, es, ← et, not-false t h)
 
 -- The pages.
-module _ (n d : ℕ) (ed : d ≡ deviceOf n) (m : ℕ) (part : List ℕ) where
+module _ (n : ℕ) {d : ℕ} (ed : d ≡ deviceOf n) {m : ℕ} {part : List ℕ} where
   module _ (cells : List ℕ) (address : ℕ) (eo : shownAs m part ≡ cellPageOutcome d cells address) where
     pub cell-page-refused : (m ≡ 0 → ⊥) → placedAs m 0 0 ≡ cellPageLeft n cells address
     unfolding cellPageLeft
     cell-page-refused h = rw (← ed, ← eo, ne-eqb m 0 h)
 
-    pub cell-page-placed : m ≡ 0 → (row : Row) → row ≡ rowOf d → (p : ℕ) → p ≡ address % row .page → placedAs 0 (address - p) (row .page) ≡ cellPageLeft n cells address
+    pub cell-page-placed : m ≡ 0 → {row : Row} → row ≡ rowOf d → {p : ℕ} → p ≡ address % row .page → placedAs 0 (address - p) (row .page) ≡ cellPageLeft n cells address
     unfolding cellPageLeft
-    cell-page-placed z row er p ep = rw (← ed, ← eo, z, ep, er)
+    cell-page-placed z er ep = rw (← ed, ← eo, z, ep, er)
 
   module _ (identification : List ℕ) (eo : shownAs m part ≡ identificationPageOutcome d identification) where
     pub page-refused : (m ≡ 0 → ⊥) → placedAs m 0 0 ≡ identificationPageLeft n identification

@@ -12,9 +12,7 @@ use lib.Seq.{take-all, drop-drop, drop-length}
 use mir.Val.{boolByte}
 use borrow.Rule.Slice.PartMut.{postOf, putMid}
 use borrow.Author.Tests.{eqb-true, eq-eqb, ne-eqb, not-true, not-false}
-use Rattle.rules.specs.declared.Instruction.{Instruction}
 use Rattle.rules.specs.declared.Kind.{Kind}
-use Rattle.rules.specs.declared.Level.{Level}
 use Rattle.rules.specs.declared.Place.{Place}
 use Rattle.rules.specs.declared.State.{State}
 use Rattle.rules.specs.Sound.{areMarks}
@@ -22,29 +20,20 @@ use Rattle.rules.specs.Trace.{answerByte}
 use Rattle.rules.proofs.Choice.{and-left}
 use Rattle.bits.proofs.Masks.{within}
 use Rattle.m95.proofs.Calling.{flag-number}
-use Rattle.m95_c.specs.StateBytes.{instructions, levels, kinds, isState, stateAt, noState, stateOf, byteOf, fourBytes, instructionNumber, kindNumber, numberBytes, flagBytes, otherBytes, bytesOf}
+use Rattle.m95_c.specs.StateBytes.{kinds, isState, stateAt, noState, stateOf, byteOf, fourBytes, instructionNumber, kindNumber, numberBytes, flagBytes, otherBytes, bytesOf}
 
--- What stands past the end of a list is the last of its instructions or levels, and no cycle.
-pub instruction-past : (n : ℕ) → (n ≡ 0 → ⊥) → (n ≡ 1 → ⊥) → (n ≡ 2 → ⊥) → (n ≡ 3 → ⊥) → (n ≡ 4 → ⊥) → (n ≡ 5 → ⊥) → (n ≡ 6 → ⊥) → (n ≡ 7 → ⊥) → (n ≡ 8 → ⊥) → (n ≡ 9 → ⊥) → Instruction.Unknown ≡ getD instructions n Instruction.Unknown
-instruction-past zero a b c d e f g h i j = absurd (a refl)
-instruction-past (suc zero) a b c d e f g h i j = absurd (b refl)
-instruction-past (suc (suc zero)) a b c d e f g h i j = absurd (c refl)
-instruction-past (suc (suc (suc zero))) a b c d e f g h i j = absurd (d refl)
-instruction-past (suc (suc (suc (suc zero)))) a b c d e f g h i j = absurd (e refl)
-instruction-past (suc (suc (suc (suc (suc zero))))) a b c d e f g h i j = absurd (f refl)
-instruction-past (suc (suc (suc (suc (suc (suc zero)))))) a b c d e f g h i j = absurd (g refl)
-instruction-past (suc (suc (suc (suc (suc (suc (suc zero))))))) a b c d e f g h i j = absurd (h refl)
-instruction-past (suc (suc (suc (suc (suc (suc (suc (suc zero)))))))) a b c d e f g h i j = absurd (i refl)
-instruction-past (suc (suc (suc (suc (suc (suc (suc (suc (suc zero))))))))) a b c d e f g h i j = absurd (j refl)
-instruction-past (suc (suc (suc (suc (suc (suc (suc (suc (suc (suc zero)))))))))) a b c d e f g h i j = refl
-instruction-past (suc (suc (suc (suc (suc (suc (suc (suc (suc (suc (suc n))))))))))) a b c d e f g h i j = refl
+-- A number from k on that is not k.
+pub above : {n : ℕ} (k : ℕ) → (n ≡ k → ⊥) → k ≤ n → k + 1 ≤ n
+above k h l = omega arith
 
-pub level-past : (n : ℕ) → (n ≡ 0 → ⊥) → (n ≡ 1 → ⊥) → Level.Z ≡ getD levels n Level.Z
-level-past zero a b = absurd (a refl)
-level-past (suc zero) a b = absurd (b refl)
-level-past (suc (suc zero)) a b = refl
-level-past (suc (suc (suc n))) a b = refl
+-- From the last of a list on, all is that last.
+pub past-end : {A : Type 0} (l : List A) {d : A} (n : ℕ) → length l ≤ n → d ≡ getD (l ++ (d ∷ [])) n d
+past-end [] zero h = refl
+past-end [] (suc n) h = refl
+past-end (x ∷ l) zero h = absurd (omega arith)
+past-end (x ∷ l) (suc n) h = past-end l n (omega arith)
 
+-- What is none of the four is no cycle.
 pub kind-past : (n : ℕ) → (n ≡ 1 → ⊥) → (n ≡ 2 → ⊥) → (n ≡ 3 → ⊥) → (n ≡ 4 → ⊥) → Kind.None ≡ getD kinds n Kind.None
 kind-past zero a b c d = refl
 kind-past (suc zero) a b c d = absurd (a refl)
@@ -58,9 +47,10 @@ pub wrong-length : (b : List ℕ) → (length b ≡ 36 → ⊥) → false ≡ is
 unfolding isState
 wrong-length b h = rw (ne-eqb (length b) 36 h)
 
-pub right-length : (b : List ℕ) (m : Bool) → length b ≡ 36 → m ≡ areMarks (take 11 (drop 12 b)) → (m && leb (getD b 23 0) 10 && leb (getD b 24 0) 2 && leb (getD b 25 0) 4) ≡ isState b
+pub right-length : (b : List ℕ) {m : Bool} → length b ≡ 36 → m ≡ areMarks (take 11 (drop 12 b))
+    → (m && leb (getD b 23 0) 10 && leb (getD b 24 0) 2 && leb (getD b 25 0) 4) ≡ isState b
 unfolding isState
-right-length b m h e = rw (eq-eqb (length b) 36 h, e)
+right-length b h e = rw (eq-eqb (length b) 36 h, e)
 
 pub state-length : (b : List ℕ) → isState b ≡ true → length b ≡ 36
 unfolding isState
@@ -68,14 +58,14 @@ state-length b h =
     let rest : Bool = areMarks (take 11 (drop 12 b)) && leb (getD b 23 0) 10 && leb (getD b 24 0) 2 && leb (getD b 25 0) 4 in
     eqb-true (length b) 36 (and-left (eqb (length b) 36) rest h)
 
-module _ (b : List ℕ) (t : Bool) (e : t ≡ isState b) where
-  pub of-none : (s : State) → not t ≡ true → s ≡ noState → s ≡ stateOf b
+module _ (b : List ℕ) {t : Bool} (e : t ≡ isState b) where
+  pub of-none : {s : State} → not t ≡ true → s ≡ noState → s ≡ stateOf b
   unfolding stateOf
-  of-none s h f = f ∙ rw (← e, not-true t h)
+  of-none h f = f ∙ rw (← e, not-true t h)
 
-  pub of-state : (s : State) → not t ≡ false → s ≡ stateAt b → s ≡ stateOf b
+  pub of-state : {s : State} → not t ≡ false → s ≡ stateAt b → s ≡ stateOf b
   unfolding stateOf
-  of-state s h f = f ∙ rw (← e, not-false t h)
+  of-state h f = f ∙ rw (← e, not-false t h)
 
   pub long-enough : not t ≡ false → 36 ≤ length b
   long-enough h = omega (arith, state-length b (sym e ∙ not-false t h))
@@ -90,28 +80,50 @@ put-over n xs room e f = rw (take-all n xs (le-of-eq e), ← f, drop-length room
 
 -- The flags as the code puts them.
 abbrev cast : State → List ℕ
-cast s = boolByte (s .pins .c) ∷ boolByte (s .pins .d) ∷ boolByte (s .pins .s) ∷ boolByte (s .pins .hold) ∷ boolByte (s .pins .w) ∷ boolByte (s .selection .selected) ∷ boolByte (s .selection .held) ∷ boolByte (s .selection .seen) ∷ boolByte (s .command .away) ∷ boolByte (s .registers .wel) ∷ boolByte (s .registers .locked) ∷ []
+cast s =
+    boolByte (s .pins .c) ∷ boolByte (s .pins .d) ∷ boolByte (s .pins .s) ∷ boolByte (s .pins .hold) ∷ boolByte (s .pins .w)
+    ∷ boolByte (s .selection .selected) ∷ boolByte (s .selection .held) ∷ boolByte (s .selection .seen)
+    ∷ boolByte (s .command .away) ∷ boolByte (s .registers .wel) ∷ boolByte (s .registers .locked) ∷ []
 
 cast-flags : (s : State) → cast s ≡ flagBytes s
-cast-flags s = rw (flag-number (s .pins .c), flag-number (s .pins .d), flag-number (s .pins .s), flag-number (s .pins .hold), flag-number (s .pins .w), flag-number (s .selection .selected), flag-number (s .selection .held), flag-number (s .selection .seen), flag-number (s .command .away), flag-number (s .registers .wel), flag-number (s .registers .locked))
+cast-flags s =
+    rw (
+      flag-number (s .pins .c),
+      flag-number (s .pins .d),
+      flag-number (s .pins .s),
+      flag-number (s .pins .hold),
+      flag-number (s .pins .w),
+      flag-number (s .selection .selected),
+      flag-number (s .selection .held),
+      flag-number (s .selection .seen),
+      flag-number (s .command .away),
+      flag-number (s .registers .wel),
+      flag-number (s .registers .locked),
+    )
 
-pub flags-put : (s : State) (room after : List ℕ) → length room ≡ 11 → after ≡ take 11 (cast s) ++ drop 11 room → after ≡ flagBytes s
-flags-put s room after h e = e ∙ put-over 11 (cast s) room refl h ∙ cast-flags s
+pub flags-put : (s : State) (room : List ℕ) {after : List ℕ} → length room ≡ 11 → after ≡ take 11 (cast s) ++ drop 11 room → after ≡ flagBytes s
+flags-put s room h e = e ∙ put-over 11 (cast s) room refl h ∙ cast-flags s
 
 -- The three parts put one after the other.
-pub parts-put : (s : State) (room numbers flags others : List ℕ) → length room ≡ 36 → numbers ≡ numberBytes (s .place) → flags ≡ flagBytes s → others ≡ otherBytes s → putMid 23 13 (putMid 12 11 (numbers ++ postOf 0 12 room) flags) others ≡ bytesOf s
+pub parts-put : (s : State) (room : List ℕ) {numbers flags others : List ℕ}
+    → length room ≡ 36 → numbers ≡ numberBytes (s .place) → flags ≡ flagBytes s → others ≡ otherBytes s
+    → putMid 23 13 (putMid 12 11 (numbers ++ postOf 0 12 room) flags) others ≡ bytesOf s
 unfolding bytesOf
-parts-put s room numbers flags others e en ef eo =
-    let past : drop 13 (drop 11 (drop 12 room)) ≡ [] = ap (drop 13) (drop-drop 11 12 room) ∙ drop-drop 13 23 room ∙ ap (λ (n : ℕ). drop n room) (sym e) ∙ drop-length room in
+parts-put s room e en ef eo =
+    let past : drop 13 (drop 11 (drop 12 room)) ≡ [] =
+    ap (drop 13) (drop-drop 11 12 room) ∙ drop-drop 13 23 room ∙ ap (λ (n : ℕ). drop n room) (sym e) ∙ drop-length room in
     rw (en, ef, eo, past)
 
 -- Their bytes, where the calls that give them have said what they give.
-pub others-put : (s : State) (instruction q kind : ℕ) → instruction ≡ instructionNumber (s .command .instruction) → q ≡ answerByte (s .output .q) → kind ≡ kindNumber (s .cycle .kind)
-    → (instruction ∷ q ∷ kind ∷ s .input .bits ∷ s .input .value ∷ s .input .bytes ∷ s .input .last ∷ s .output .sending ∷ s .registers .status ∷ s .cycle .next ∷ s .filler .first ∷ s .filler .second ∷ s .filler .third ∷ []) ≡ otherBytes s
-others-put s instruction q kind ei eq ek = rw (ei, eq, ek)
+pub others-put : (s : State) {instruction q kind : ℕ}
+    → instruction ≡ instructionNumber (s .command .instruction) → q ≡ answerByte (s .output .q) → kind ≡ kindNumber (s .cycle .kind)
+    → (instruction ∷ q ∷ kind
+    ∷ s .input .bits ∷ s .input .value ∷ s .input .bytes ∷ s .input .last ∷ s .output .sending ∷ s .registers .status ∷ s .cycle .next
+    ∷ s .filler .first ∷ s .filler .second ∷ s .filler .third ∷ []) ≡ otherBytes s
+others-put s ei eq ek = rw (ei, eq, ek)
 
-pub four-put : (n a b c d : ℕ) → a ≡ byteOf n 0 → b ≡ byteOf n 8 → c ≡ byteOf n 16 → d ≡ byteOf n 24 → (a ∷ b ∷ c ∷ d ∷ []) ≡ fourBytes n
-four-put n a b c d ea eb ec ed = rw (ea, eb, ec, ed)
+pub four-put : (n : ℕ) {a b c d : ℕ} → a ≡ byteOf n 0 → b ≡ byteOf n 8 → c ≡ byteOf n 16 → d ≡ byteOf n 24 → (a ∷ b ∷ c ∷ d ∷ []) ≡ fourBytes n
+four-put n ea eb ec ed = rw (ea, eb, ec, ed)
 
-pub numbers-put : (p : Place) (x y z : List ℕ) → x ≡ fourBytes (p .address) → y ≡ fourBytes (p .start) → z ≡ fourBytes (p .left) → x ++ y ++ z ≡ numberBytes p
-numbers-put p x y z ex ey ez = rw (ex, ey, ez)
+pub numbers-put : (p : Place) {x y z : List ℕ} → x ≡ fourBytes (p .address) → y ≡ fourBytes (p .start) → z ≡ fourBytes (p .left) → x ++ y ++ z ≡ numberBytes p
+numbers-put p ex ey ez = rw (ex, ey, ez)

@@ -1,7 +1,8 @@
--- What the bytes of a state and the places of a page are worth: what was put is read back (`read-back`), bytes that are no state get 5 (`no-state-refused`), the place of a page is the page that the library shows (`page-shown`).
+-- What the bytes of a state and the places of a page are worth: what was put is read back (`read-back`), bytes that are no state get 5
+-- (`no-state-refused`), the place of a page is the page that the library shows (`page-shown`).
 use Prim.Native.Nat.{ℕ, zero, suc, _+_, _-_, _*_, _/_, _%_, _^_, _≤_, _<_}
 use mathlib.Core.Path.{_≡_, refl}
-use mathlib.Core.Bool.{Bool, true, false, not}
+use mathlib.Core.Bool.{Bool, true, false}
 use mathlib.Core.List.{List, []}
 use native.Mathlib.Nat.{mod-eq-of-lt}
 use native.Mathlib.Omega.{arith}
@@ -69,17 +70,51 @@ four-back n h =
     let third : n / 2 ^ 16 ≡ n / 256 / 256 = omega arith in
     let fourth : n / 2 ^ 24 ≡ n / 256 / 256 / 256 = omega arith in
     let small : n / 256 / 256 / 256 % 256 ≡ n / 256 / 256 / 256 = mod-eq-of-lt (omega (arith, h)) in
-    rw (first, third, fourth, small) (joined n (n / 256) (n / 256 / 256) (n / 256 / 256 / 256) (n % 256) (n / 256 % 256) (n / 256 / 256 % 256) (split n) (split (n / 256)) (split (n / 256 / 256)))
+    rw (first, third, fourth, small)
+    (joined n (n / 256) (n / 256 / 256) (n / 256 / 256 / 256) (n % 256) (n / 256 % 256) (n / 256 / 256 % 256) (split n) (split (n / 256)) (split (n / 256 / 256)))
 
 is-state : (s : State) → isState (bytesOf s) ≡ true
 unfolding isState bytesOf
 is-state s =
-    rw (flag-is (s .pins .c), flag-is (s .pins .d), flag-is (s .pins .s), flag-is (s .pins .hold), flag-is (s .pins .w), flag-is (s .selection .selected), flag-is (s .selection .held), flag-is (s .selection .seen), flag-is (s .command .away), flag-is (s .registers .wel), flag-is (s .registers .locked), instruction-back (s .command .instruction) .0, level-back (s .output .q) .0, kind-back (s .cycle .kind) .0)
+    rw (
+      flag-is (s .pins .c),
+      flag-is (s .pins .d),
+      flag-is (s .pins .s),
+      flag-is (s .pins .hold),
+      flag-is (s .pins .w),
+      flag-is (s .selection .selected),
+      flag-is (s .selection .held),
+      flag-is (s .selection .seen),
+      flag-is (s .command .away),
+      flag-is (s .registers .wel),
+      flag-is (s .registers .locked),
+      instruction-back (s .command .instruction) .0,
+      level-back (s .output .q) .0,
+      kind-back (s .cycle .kind) .0,
+    )
 
 state-back : (s : State) → s .place .address < 2 ^ 32 → s .place .start < 2 ^ 32 → s .place .left < 2 ^ 32 → stateAt (bytesOf s) ≡ s
 unfolding bytesOf
 state-back s a b c =
-    rw (four-back (s .place .address) a, four-back (s .place .start) b, four-back (s .place .left) c, flag-back (s .pins .c), flag-back (s .pins .d), flag-back (s .pins .s), flag-back (s .pins .hold), flag-back (s .pins .w), flag-back (s .selection .selected), flag-back (s .selection .held), flag-back (s .selection .seen), flag-back (s .command .away), flag-back (s .registers .wel), flag-back (s .registers .locked), instruction-back (s .command .instruction) .1, level-back (s .output .q) .1, kind-back (s .cycle .kind) .1)
+    rw (
+      four-back (s .place .address) a,
+      four-back (s .place .start) b,
+      four-back (s .place .left) c,
+      flag-back (s .pins .c),
+      flag-back (s .pins .d),
+      flag-back (s .pins .s),
+      flag-back (s .pins .hold),
+      flag-back (s .pins .w),
+      flag-back (s .selection .selected),
+      flag-back (s .selection .held),
+      flag-back (s .selection .seen),
+      flag-back (s .command .away),
+      flag-back (s .registers .wel),
+      flag-back (s .registers .locked),
+      instruction-back (s .command .instruction) .1,
+      level-back (s .output .q) .1,
+      kind-back (s .cycle .kind) .1,
+    )
 
 -- The numbers of a device that is not refused are small.
 time-small : (n : ℕ) → rowOf n .time ≤ 5000
@@ -97,23 +132,28 @@ unfolding stateOf
 read-back device w z =
     let sound = fine device w z .0 .unsettled in
     let fits = cells-fit (of-device device) in
-    rw (is-state (w .state)) (state-back (w .state) (omega (arith, sound .inside, fits)) (omega (arith, sound .cycle .inside, fits)) (left (changes (w .state .cycle .kind) .runs) refl))
+    rw (is-state (w .state))
+    (state-back (w .state) (omega (arith, sound .inside, fits)) (omega (arith, sound .cycle .inside, fits)) (left (changes (w .state .cycle .kind) .runs) refl))
   where
     left : (t : Bool) → changes (w .state .cycle .kind) .runs ≡ t → w .state .place .left < 2 ^ 32
     left true e = omega (arith, fine device w z .0 .unsettled .cycle .runs e .1, time-small device)
     left false e = omega (arith, fine device w z .0 .unsettled .cycle .rests e)
 
-pub no-state-refused : (device : ℕ) (b : Buffers) → isState (b .state) ≡ false → lentRefusal (deviceOf device) (b .cells) (b .identification) (b .latch) ≡ 0 → buffersRefusal device b ≡ 5
+pub no-state-refused : (device : ℕ) (b : Buffers) → isState (b .state) ≡ false
+    → lentRefusal (deviceOf device) (b .cells) (b .identification) (b .latch) ≡ 0 → buffersRefusal device b ≡ 5
 unfolding worldRefusal stateOf isSound clauses
 no-state-refused device b none z = rw (z, none)
 
-pub page-shown : (device : ℕ) (cells : List ℕ) (address : ℕ) → cellPageOutcome (deviceOf device) cells address .part ≡ take (cellPageLeft device cells address .length) (drop (cellPageLeft device cells address .start) cells)
+pub page-shown : (device : ℕ) (cells : List ℕ) (address : ℕ)
+    → cellPageOutcome (deviceOf device) cells address .part ≡ take (cellPageLeft device cells address .length) (drop (cellPageLeft device cells address .start) cells)
 unfolding cellPageOutcome cellPageLeft
 page-shown device cells address =
     let n = cellPageOutcome (deviceOf device) cells address .number in
     let page = rowOf (deviceOf device) .page in
     chosen (eqb n 0) n (address - address % page) page
   where
-    chosen : (t : Bool) (n start page : ℕ) → (if t then take page (drop start cells) else []) ≡ take ((if t then placedAs 0 start page else placedAs n 0 0) .length) (drop ((if t then placedAs 0 start page else placedAs n 0 0) .start) cells)
+    chosen : (t : Bool) (n start page : ℕ)
+        → (if t then take page (drop start cells) else [])
+        ≡ take ((if t then placedAs 0 start page else placedAs n 0 0) .length) (drop ((if t then placedAs 0 start page else placedAs n 0 0) .start) cells)
     chosen true n start page = refl
     chosen false n start page = refl

@@ -55,7 +55,8 @@ prepareLeft device b =
     if eqb (length (b .state)) stateLength then preparedAs (o .number) (buffersWith (o .world))
     else preparedAs (worldRefusal (deviceOf device) none) b
 
--- Loading: 1, then 5 for what is handed in or for a room of a wrong length. Refused it leaves the room. A number above a byte's counts as 255: no device has these bits, and no lock is so.
+-- Loading: 1, then 5 for what is handed in or for a room of a wrong length. Refused it leaves the room. A number above a byte's counts as
+-- 255: no device has these bits, and no lock is so.
 abbrev pub byteFor : ℕ → ℕ
 byteFor n = if leb n 255 then n else 255
 
@@ -73,7 +74,8 @@ loadLeft device state status lock =
     else if eqb (length state) stateLength then loadedAs 0 (bytesOf (o .state))
     else loadedAs 5 state
 
--- An event by the kind of its record and the number in it: 7 for a kind that is none, 9 for a pin byte above 9. No cycle lasts as long as the longest wait of a record, and a longer one counts as that.
+-- An event by the kind of its record and the number in it: 7 for a kind that is none, 9 for a pin byte above 9. No cycle lasts as long as
+-- the longest wait of a record, and a longer one counts as that.
 unfoldable pub eventRefusal : ℕ → ℕ → ℕ
 eventRefusal kind value = if eqb (lengthOf kind) 0 then 7 else if eqb kind 1 && ltb 9 value then 9 else 0
 

@@ -25,7 +25,9 @@ abbrev pub version : ℕ
 version = 1
 
 abbrev pub instructions : List Instruction
-instructions = Instruction.Wren ∷ Instruction.Wrdi ∷ Instruction.Rdsr ∷ Instruction.Wrsr ∷ Instruction.Read ∷ Instruction.Write ∷ Instruction.Rdid ∷ Instruction.Rdls ∷ Instruction.Wrid ∷ Instruction.Lid ∷ Instruction.Unknown ∷ []
+instructions =
+    Instruction.Wren ∷ Instruction.Wrdi ∷ Instruction.Rdsr ∷ Instruction.Wrsr ∷ Instruction.Read ∷ Instruction.Write
+    ∷ Instruction.Rdid ∷ Instruction.Rdls ∷ Instruction.Wrid ∷ Instruction.Lid ∷ Instruction.Unknown ∷ []
 
 abbrev pub levels : List Level
 levels = Level.Low ∷ Level.High ∷ Level.Z ∷ []
@@ -72,7 +74,18 @@ abbrev pub fillerAt : List ℕ → Filler
 fillerAt b = record { first = getD b 33 0; second = getD b 34 0; third = getD b 35 0 }
 
 abbrev pub stateAt : List ℕ → State
-stateAt b = record { place = placeAt b; pins = pinsAt b; selection = selectionAt b; input = inputAt b; command = commandAt b; output = outputAt b; registers = registersAt b; cycle = cycleAt b; filler = fillerAt b }
+stateAt b =
+    record {
+      place = placeAt b;
+      pins = pinsAt b;
+      selection = selectionAt b;
+      input = inputAt b;
+      command = commandAt b;
+      output = outputAt b;
+      registers = registersAt b;
+      cycle = cycleAt b;
+      filler = fillerAt b;
+    }
 
 -- Bytes that are no state stand for one that is not sound, with eight bits of a byte received: every call gives them 5.
 abbrev pub noState : State

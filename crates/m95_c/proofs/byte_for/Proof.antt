@@ -1,5 +1,5 @@
 -- `m95_c::byte_for` meets its contract.
-use Rattle.m95_c.proofs.Leaving.{byte-small, byte-large}
+use Rattle.m95_c.proofs.Leaving.{byte-kept, none-taken}
 use borrow.Author.Needs.{needs}
 use Rattle.m95_c.proofs.byte_for.Statement.{statement}
 use Rattle.m95_c.proofs.byte_for.Tie as tie
@@ -8,10 +8,10 @@ cast-result : tie.Need-cast-result
 cast-result c = search needs
 
 returns : tie.Need-returns
-returns c = byte-small (c .before .args .number) (c .if1 .taken)
+returns c = byte-kept 255 (c .before .args .number) (c .if1 .taken)
 
 returns-2 : tie.Need-returns-2
-returns-2 c = byte-large (c .before .args .number) (c .if1 .left)
+returns-2 c = none-taken 255 (c .before .args .number) (c .if1 .left)
 
 pub byte-for-spec : {M : Type 1} → statement M
 byte-for-spec = tie.close (tie.spec cast-result returns returns-2)

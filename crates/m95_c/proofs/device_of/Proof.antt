@@ -1,5 +1,5 @@
 -- `m95_c::device_of` meets its contract.
-use Rattle.m95_c.proofs.Leaving.{device-small, device-large}
+use Rattle.m95_c.proofs.Leaving.{byte-kept, none-taken}
 use borrow.Author.Needs.{needs}
 use Rattle.m95_c.proofs.device_of.Statement.{statement}
 use Rattle.m95_c.proofs.device_of.Tie as tie
@@ -8,10 +8,10 @@ cast-result : tie.Need-cast-result
 cast-result c = search needs
 
 returns : tie.Need-returns
-returns c = device-small (c .before .args .number) (c .if1 .taken)
+returns c = byte-kept 0 (c .before .args .number) (c .if1 .taken)
 
 returns-2 : tie.Need-returns-2
-returns-2 c = device-large (c .before .args .number) (c .if1 .left)
+returns-2 c = none-taken 0 (c .before .args .number) (c .if1 .left)
 
 pub device-of-spec : {M : Type 1} → statement M
 device-of-spec = tie.close (tie.spec cast-result returns returns-2)

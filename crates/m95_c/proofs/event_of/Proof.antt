@@ -15,10 +15,14 @@ wait-of-requires : tie.Need-wait-of-requires
 wait-of-requires c κs = search needs
 
 returns : tie.Need-returns
-returns c = event-pin (c .before .before .args .kind) (c .before .before .args .value) _ (c .before .match .keys1) (c .pin-event .ensures)
+returns c =
+    let start = c .before .before in
+    event-pin (start .args .kind) (start .args .value) (c .before .match .keys1) (c .pin-event .ensures)
 
 returns-2 : tie.Need-returns-2
-returns-2 c = event-wait (c .before .before .args .kind) (c .before .before .args .value) _ (c .before .match .keys2) (c .wait-of .ensures)
+returns-2 c =
+    let start = c .before .before in
+    event-wait (start .args .kind) (start .args .value) (c .before .match .keys2) (c .wait-of .ensures)
 
 returns-3 : tie.Need-returns-3
 returns-3 c = event-power (c .before .args .kind) (c .before .args .value) (c .match .rest .0 .1) (c .match .rest .1)

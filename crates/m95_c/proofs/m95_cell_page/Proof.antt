@@ -13,19 +13,30 @@ cell-page-requires : tie.Need-cell-page-requires
 cell-page-requires c κs = search needs
 
 returns : tie.Need-returns
-returns c = cell-page-refused (c .before .before .before .before .before .args .device) (c .before .before .before .device-of .result) (c .before .before .before .device-of .ensures) _ _ (c .before .before .before .before .before .args .cells .now) (c .before .before .before .before .before .args .address) (c .before .cell-page .ensures) (c .if1 .taken)
+returns c =
+    let start = c .before .before .before .before .before in
+    cell-page-refused (start .args .device) (c .before .before .before .device-of .ensures) (start .args .cells .now) (start .args .address)
+    (c .before .cell-page .ensures) (c .if1 .taken)
 
 row-of-requires : tie.Need-row-of-requires
 row-of-requires c κs = search needs
 
 place-requires : tie.Need-place-requires
-place-requires c κs = row-widths (c .before .before .before .before .device-of .result) (c .row-of .result) (c .row-of .ensures)
+place-requires c κs =
+    let device-of = c .before .before .before .before .device-of in
+    row-widths (device-of .result) (c .row-of .result) (c .row-of .ensures)
 
 sub-start : tie.Need-sub-start
-sub-start c = rw (c .place .ensures) (mod-le (c .before .before .before .before .before .before .before .args .address) (c .before .row-of .result .page))
+sub-start c =
+    let start = c .before .before .before .before .before .before .before in
+    rw (c .place .ensures) (mod-le (start .args .address) (c .before .row-of .result .page))
 
 returns-2 : tie.Need-returns-2
-returns-2 c = cell-page-placed (c .before .before .before .before .before .before .before .args .device) (c .before .before .before .before .before .device-of .result) (c .before .before .before .before .before .device-of .ensures) _ _ (c .before .before .before .before .before .before .before .args .cells .now) (c .before .before .before .before .before .before .before .args .address) (c .before .before .before .cell-page .ensures) (c .before .before .if1 .left) (c .before .row-of .result) (c .before .row-of .ensures) (c .place .result) (c .place .ensures)
+returns-2 c =
+    let at-device-of = c .before .before .before .before .before in
+    let start = at-device-of .before .before in
+    cell-page-placed (start .args .device) (at-device-of .device-of .ensures) (start .args .cells .now) (start .args .address)
+    (c .before .before .before .cell-page .ensures) (c .before .before .if1 .left) (c .before .row-of .ensures) (c .place .ensures)
 
 pub m95-cell-page-spec : {M : Type 1} → statement M
 m95-cell-page-spec =

@@ -30,7 +30,12 @@ same-length-4 : tie.Need-same-length-4
 same-length-4 c = search needs
 
 returns : tie.Need-returns
-returns c = event-whole (c .before .before .before .before .before .before .before .before .before .before .before .before .before .args .device) (c .before .before .before .before .before .before .before .before .device-of .result) (c .before .before .before .before .before .before .before .before .device-of .ensures) (buffersOf (c .before .before .before .before .before .before .before .before .before .before .before .before .before .args .state .now) (c .before .before .before .before .before .before .before .before .before .before .before .before .before .args .cells .now) (c .before .before .before .before .before .before .before .before .before .before .before .before .before .args .identification .now) (c .before .before .before .before .before .before .before .before .before .before .before .before .before .args .latch .now)) (c .before .before .before .before .before .before .state-of .result) (c .before .before .before .before .before .before .state-of .ensures) (c .before .world-refused .result) (c .before .world-refused .ensures) (c .before .before .before .before .before .before .before .before .before .before .before .before .before .args .kind) (c .before .before .before .before .before .before .before .before .before .before .before .before .before .args .value) (c .if1 .taken)
+returns c =
+    let start = c .before .before .before .before .before .before .before .before .before .before .before .before .before .args in
+    let device = c .before .before .before .before .before .before .before .before .device-of in
+    let read = c .before .before .before .before .before .before .state-of in
+    event-whole (start .device) (device .ensures) (buffersOf (start .state .now) (start .cells .now) (start .identification .now) (start .latch .now))
+    (read .ensures) (c .before .world-refused .ensures) (start .kind) (start .value) (c .if1 .taken)
 
 same-length-5 : tie.Need-same-length-5
 same-length-5 c = search needs
@@ -45,7 +50,13 @@ same-length-8 : tie.Need-same-length-8
 same-length-8 c = search needs
 
 returns-2 : tie.Need-returns-2
-returns-2 c = event-bad (c .before .before .before .before .before .before .before .before .before .before .before .before .before .before .args .device) (c .before .before .before .before .before .before .before .before .before .device-of .result) (c .before .before .before .before .before .before .before .before .before .device-of .ensures) (buffersOf (c .before .before .before .before .before .before .before .before .before .before .before .before .before .before .args .state .now) (c .before .before .before .before .before .before .before .before .before .before .before .before .before .before .args .cells .now) (c .before .before .before .before .before .before .before .before .before .before .before .before .before .before .args .identification .now) (c .before .before .before .before .before .before .before .before .before .before .before .before .before .before .args .latch .now)) (c .before .before .before .before .before .before .before .state-of .result) (c .before .before .before .before .before .before .before .state-of .ensures) (c .before .before .world-refused .result) (c .before .before .world-refused .ensures) (c .before .before .before .before .before .before .before .before .before .before .before .before .before .before .args .kind) (c .before .before .before .before .before .before .before .before .before .before .before .before .before .before .args .value) (c .before .if1 .left) (c .before .before .before .before .before .before .event-refused .result) (c .before .before .before .before .before .before .event-refused .ensures) (c .if2 .taken)
+returns-2 c =
+    let start = c .before .before .before .before .before .before .before .before .before .before .before .before .before .before .args in
+    let device = c .before .before .before .before .before .before .before .before .before .device-of in
+    let read = c .before .before .before .before .before .before .before .state-of in
+    let asked = c .before .before .before .before .before .before .event-refused in
+    event-bad (start .device) (device .ensures) (buffersOf (start .state .now) (start .cells .now) (start .identification .now) (start .latch .now))
+    (read .ensures) (c .before .before .world-refused .ensures) (start .kind) (start .value) (c .before .if1 .left) (asked .ensures) (c .if2 .taken)
 
 event-of-requires : tie.Need-event-of-requires
 event-of-requires c κs = search needs
@@ -66,17 +77,28 @@ same-length-12 : tie.Need-same-length-12
 same-length-12 c = search needs
 
 returns-3 : tie.Need-returns-3
-returns-3 c = event-refused (c .before .before .before .before .before .before .before .before .before .before .before .before .before .before .before .before .before .before .before .before .before .before .before .before .before .before .before .args .device) (c .before .before .before .before .before .before .before .before .before .before .before .before .before .before .before .before .before .before .before .before .before .before .device-of .result) (c .before .before .before .before .before .before .before .before .before .before .before .before .before .before .before .before .before .before .before .before .before .before .device-of .ensures) (buffersOf (c .before .before .before .before .before .before .before .before .before .before .before .before .before .before .before .before .before .before .before .before .before .before .before .before .before .before .before .args .state .now) (c .before .before .before .before .before .before .before .before .before .before .before .before .before .before .before .before .before .before .before .before .before .before .before .before .before .before .before .args .cells .now) (c .before .before .before .before .before .before .before .before .before .before .before .before .before .before .before .before .before .before .before .before .before .before .before .before .before .before .before .args .identification .now) (c .before .before .before .before .before .before .before .before .before .before .before .before .before .before .before .before .before .before .before .before .before .before .before .before .before .before .before .args .latch .now)) (c .before .before .before .before .before .before .before .before .before .before .before .before .before .before .before .before .before .before .before .before .state-of .result) (c .before .before .before .before .before .before .before .before .before .before .before .before .before .before .before .before .before .before .before .before .state-of .ensures) (c .before .before .before .before .before .before .before .before .before .before .before .before .before .before .before .world-refused .result) (c .before .before .before .before .before .before .before .before .before .before .before .before .before .before .before .world-refused .ensures) (c .before .before .before .before .before .before .before .before .before .before .before .before .before .before .before .before .before .before .before .before .before .before .before .before .before .before .before .args .kind) (c .before .before .before .before .before .before .before .before .before .before .before .before .before .before .before .before .before .before .before .before .before .before .before .before .before .before .before .args .value) (c .before .before .before .before .before .before .before .before .before .before .before .before .before .before .if1 .left) (c .before .before .before .before .before .before .before .before .before .before .before .before .before .before .before .before .before .before .before .event-refused .result) (c .before .before .before .before .before .before .before .before .before .before .before .before .before .before .before .before .before .before .before .event-refused .ensures) (c .before .before .before .before .before .before .before .before .before .before .before .before .before .if2 .left) (c .before .before .before .before .before .before .before .before .before .event-of .result) (c .before .before .before .before .before .before .before .before .before .event-of .ensures) (c .before .before .before .before .before .before .before .before .event .result .number) (c .before .before .before .before .before .before .before .before .event .result .answer) (c .before .before .before .before .before .before .before .before .event .result .state) _ _ _ (c .before .before .before .before .before .before .before .before .event .ensures) (c .if3 .taken)
+returns-3 c =
+    let near = c .before .before .before .before .before .before .before .before in
+    let start = near .before .before .before .before .before .before .before .before .before .before .before .before .before .before .before .before .before .before .before .args in
+    let device = near .before .before .before .before .before .before .before .before .before .before .before .before .before .before .device-of in
+    let read = near .before .before .before .before .before .before .before .before .before .before .before .before .state-of in
+    let asked = near .before .before .before .before .before .before .before .before .before .before .before .event-refused in
+    let judged = near .before .before .before .before .before .before .before .world-refused in
+    let whole = near .before .before .before .before .before .before .if1 .left in
+    let good = near .before .before .before .before .before .if2 .left in
+    event-refused (start .device) (device .ensures) (buffersOf (start .state .now) (start .cells .now) (start .identification .now) (start .latch .now))
+    (read .ensures) (judged .ensures) (start .kind) (start .value) whole (asked .ensures) good (near .before .event-of .ensures) (near .event .ensures)
+    (c .if3 .taken)
 
 put-state-requires : tie.Need-put-state-requires
 put-state-requires c κs =
     let near = c .before .before .before .before .before .before .before .before .before in
     let start = near .before .before .before .before .before .before .before .before .before .before .before .before .before .before .before .before .before .before .before .args in
+    let device = near .before .before .before .before .before .before .before .before .before .before .before .before .before .before .device-of in
     let read = near .before .before .before .before .before .before .before .before .before .before .before .before .state-of in
     let judged = near .before .before .before .before .before .before .before .world-refused in
-    state-long (near .before .before .before .before .before .before .before .before .before .before .before .before .before .before .device-of .result) (read .result)
-    (start .state .now) (start .cells .now) (start .identification .now)
-    (start .latch .now) (judged .result) (read .ensures) (judged .ensures) (near .before .before .before .before .before .before .if1 .left)
+    state-long (device .result) (start .state .now) (start .cells .now) (start .identification .now) (start .latch .now) (read .ensures) (judged .ensures)
+    (near .before .before .before .before .before .before .if1 .left)
 
 same-length-13 : tie.Need-same-length-13
 same-length-13 c = search needs
@@ -98,14 +120,11 @@ returns-4 c =
     let read = near .before .before .before .before .before .before .before .before .before .before .before .before .state-of in
     let asked = near .before .before .before .before .before .before .before .before .before .before .before .event-refused in
     let judged = near .before .before .before .before .before .before .before .world-refused in
-    let made = near .before .event-of in
-    let reply = near .event in
-    event-done (start .device) (device .result) (device .ensures)
-    (buffersOf (start .state .now) (start .cells .now) (start .identification .now) (start .latch .now))
-    (read .result) (read .ensures) (judged .result) (judged .ensures) (start .kind) (start .value) (near .before .before .before .before .before .before .if1 .left)
-    (asked .result) (asked .ensures) (near .before .before .before .before .before .if2 .left) (made .result) (made .ensures)
-    (reply .result .number) (reply .result .answer) (reply .result .state) _ _ _ (reply .ensures)
-    (c .before .before .before .before .if3 .left) _ (c .before .before .put-state .ensures)
+    let whole = near .before .before .before .before .before .before .if1 .left in
+    let good = near .before .before .before .before .before .if2 .left in
+    event-done (start .device) (device .ensures) (buffersOf (start .state .now) (start .cells .now) (start .identification .now) (start .latch .now))
+    (read .ensures) (judged .ensures) (start .kind) (start .value) whole (asked .ensures) good (near .before .event-of .ensures) (near .event .ensures)
+    (c .before .before .before .before .if3 .left) (c .before .before .put-state .ensures)
 
 pub m95-event-spec : {M : Type 1} → statement M
 m95-event-spec =

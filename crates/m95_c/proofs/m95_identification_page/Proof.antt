@@ -11,10 +11,16 @@ identification-page-requires : tie.Need-identification-page-requires
 identification-page-requires c κs = search needs
 
 returns : tie.Need-returns
-returns c = page-refused (c .before .before .before .before .before .args .device) (c .before .before .before .device-of .result) (c .before .before .before .device-of .ensures) _ _ (c .before .before .before .before .before .args .identification .now) (c .before .identification-page .ensures) (c .if1 .taken)
+returns c =
+    let start = c .before .before .before .before .before in
+    page-refused (start .args .device) (c .before .before .before .device-of .ensures) (start .args .identification .now) (c .before .identification-page .ensures)
+    (c .if1 .taken)
 
 returns-2 : tie.Need-returns-2
-returns-2 c = page-placed (c .before .before .before .before .before .args .device) (c .before .before .before .device-of .result) (c .before .before .before .device-of .ensures) _ _ (c .before .before .before .before .before .args .identification .now) (c .before .identification-page .ensures) (c .if1 .left)
+returns-2 c =
+    let start = c .before .before .before .before .before in
+    page-placed (start .args .device) (c .before .before .before .device-of .ensures) (start .args .identification .now) (c .before .identification-page .ensures)
+    (c .if1 .left)
 
 pub m95-identification-page-spec : {M : Type 1} → statement M
 m95-identification-page-spec =

@@ -23,8 +23,8 @@ returns c =
     let lock = c .before .before .before .before .byte-for2 in
     let device = c .before .before .before .device-of in
     let loaded = c .before .before .load in
-    load-refused (start .args .device) (device .result) (start .args .status) (start .args .lock) (status .result) (lock .result) (device .ensures) (status .ensures) (lock .ensures)
-    (start .args .state .now) (loaded .result .number) (loaded .result .state) (loaded .ensures) (c .if1 .taken)
+    load-refused (start .args .device) (start .args .status) (start .args .lock) (device .ensures) (status .ensures) (lock .ensures)
+    (start .args .state .now) (loaded .ensures) (c .if1 .taken)
 
 returns-2 : tie.Need-returns-2
 returns-2 c =
@@ -33,8 +33,8 @@ returns-2 c =
     let lock = c .before .before .before .before .before .byte-for2 in
     let device = c .before .before .before .before .device-of in
     let loaded = c .before .before .before .load in
-    load-roomless (start .args .device) (device .result) (start .args .status) (start .args .lock) (status .result) (lock .result) (device .ensures) (status .ensures) (lock .ensures)
-    (start .args .state .now) (loaded .result .number) (loaded .result .state) (loaded .ensures) (c .before .if1 .left) (c .if2 .taken)
+    load-roomless (start .args .device) (start .args .status) (start .args .lock) (device .ensures) (status .ensures) (lock .ensures)
+    (start .args .state .now) (loaded .ensures) (c .before .if1 .left) (c .if2 .taken)
 
 put-state-requires : tie.Need-put-state-requires
 put-state-requires c κs = search needs
@@ -49,9 +49,9 @@ returns-3 c =
     let lock = c .before .before .before .before .before .before .before .before .before .byte-for2 in
     let device = c .before .before .before .before .before .before .before .before .device-of in
     let loaded = c .before .before .before .before .before .before .before .load in
-    load-room (start .args .device) (device .result) (start .args .status) (start .args .lock) (status .result) (lock .result) (device .ensures) (status .ensures) (lock .ensures)
-    (start .args .state .now) (loaded .result .number) (loaded .result .state) (loaded .ensures)
-    (c .before .before .before .before .before .if1 .left) (c .before .before .before .before .if2 .left) _ (c .before .before .put-state .ensures)
+    load-room (start .args .device) (start .args .status) (start .args .lock) (device .ensures) (status .ensures) (lock .ensures)
+    (start .args .state .now) (loaded .ensures)
+    (c .before .before .before .before .before .if1 .left) (c .before .before .before .before .if2 .left) (c .before .before .put-state .ensures)
 
 pub m95-load-spec : {M : Type 1} → statement M
 m95-load-spec =

@@ -24,7 +24,13 @@ same-length-3 : tie.Need-same-length-3
 same-length-3 c = search needs
 
 returns : tie.Need-returns
-returns c = prepare-roomless (c .before .before .before .before .before .before .before .before .before .before .before .args .device) (c .before .before .before .before .before .before .device-of .result) (c .before .before .before .before .before .before .device-of .ensures) (buffersOf (c .before .before .before .before .before .before .before .before .before .before .before .args .state .now) (c .before .before .before .before .before .before .before .before .before .before .before .args .cells .now) (c .before .before .before .before .before .before .before .before .before .before .before .args .identification .now) (c .before .before .before .before .before .before .before .before .before .before .before .args .latch .now)) (c .before .before .before .before .no-state .result) (c .world-refused .result) (c .before .before .before .before .before .if1 .taken) (c .before .before .before .before .no-state .ensures) (c .world-refused .ensures)
+returns c =
+    let start = c .before .before .before .before .before .before .before .before .before .before .before .args in
+    let device = c .before .before .before .before .before .before .device-of in
+    let wrong = c .before .before .before .before .before .if1 .taken in
+    let none = c .before .before .before .before .no-state in
+    prepare-roomless (start .device) (device .ensures) (buffersOf (start .state .now) (start .cells .now) (start .identification .now) (start .latch .now))
+    wrong (none .ensures) (c .world-refused .ensures)
 
 prepare-requires : tie.Need-prepare-requires
 prepare-requires c κs = search needs
@@ -46,14 +52,12 @@ same-length-7 c = search needs
 
 returns-2 : tie.Need-returns-2
 returns-2 c =
-    let start = c .before .before .before .before .before .before .before .before .before .before .before .before .before .before .before .before .before .before .before .before in
+    let start = c .before .before .before .before .before .before .before .before .before .before .before .before .before .before .before .before .before .before .before .before .args in
     let device = c .before .before .before .before .before .before .before .before .before .before .before .before .before .before .before .device-of in
     let whole = c .before .before .before .before .before .before .before .before .before .before .before .before .before .before .if1 .left in
     let ready = c .before .before .before .before .before .before .before .before .before .before .prepare in
-    let put = c .before .before .put-state in
-    prepare-room (start .args .device) (device .result) (device .ensures)
-    (buffersOf (start .args .state .now) (start .args .cells .now) (start .args .identification .now) (start .args .latch .now))
-    (ready .result .state) (ready .result .number) _ _ _ _ whole (ready .ensures) (put .ensures)
+    prepare-room (start .device) (device .ensures) (buffersOf (start .state .now) (start .cells .now) (start .identification .now) (start .latch .now))
+    whole (ready .ensures) (c .before .before .put-state .ensures)
 
 pub m95-prepare-spec : {M : Type 1} → statement M
 m95-prepare-spec =

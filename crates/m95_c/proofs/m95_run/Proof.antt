@@ -27,7 +27,12 @@ same-length-4 : tie.Need-same-length-4
 same-length-4 c = search needs
 
 returns : tie.Need-returns
-returns c = run-whole (c .before .before .before .before .before .before .before .before .before .before .before .before .before .before .args .device) (c .before .before .before .before .before .before .before .device-of .result) (c .before .before .before .before .before .before .before .device-of .ensures) (buffersOf (c .before .before .before .before .before .before .before .before .before .before .before .before .before .before .args .state .now) (c .before .before .before .before .before .before .before .before .before .before .before .before .before .before .args .cells .now) (c .before .before .before .before .before .before .before .before .before .before .before .before .before .before .args .identification .now) (c .before .before .before .before .before .before .before .before .before .before .before .before .before .before .args .latch .now)) (c .before .before .before .before .before .state-of .result) (c .before .before .before .before .before .state-of .ensures) (c .before .world-refused .result) (c .before .world-refused .ensures) (c .before .before .before .before .before .before .before .before .before .before .before .before .before .before .args .trace .now) (c .before .before .before .before .before .before .before .before .before .before .before .before .before .before .args .answers .now) (c .before .before .before .before .before .before .before .before .before .before .before .before .before .before .args .limit) (c .if1 .taken)
+returns c =
+    let start = c .before .before .before .before .before .before .before .before .before .before .before .before .before .before .args in
+    let device = c .before .before .before .before .before .before .before .device-of in
+    let read = c .before .before .before .before .before .state-of in
+    run-whole (start .device) (device .ensures) (buffersOf (start .state .now) (start .cells .now) (start .identification .now) (start .latch .now))
+    (read .ensures) (c .before .world-refused .ensures) (start .trace .now) (start .answers .now) (start .limit) (c .if1 .taken)
 
 run-requires : tie.Need-run-requires
 run-requires c κs = search needs
@@ -36,11 +41,11 @@ put-state-requires : tie.Need-put-state-requires
 put-state-requires c κs =
     let near = c .before .before .before .before .before .before .before .before .before in
     let start = near .before .before .before .before .before .before .before .before .before .before .before .before .before .before .before .before .before .before .before .args in
+    let device = near .before .before .before .before .before .before .before .before .before .before .before .before .device-of in
     let read = near .before .before .before .before .before .before .before .before .before .before .state-of in
     let judged = near .before .before .before .before .before .before .world-refused in
-    state-long (near .before .before .before .before .before .before .before .before .before .before .before .before .device-of .result) (read .result)
-    (start .state .now) (start .cells .now) (start .identification .now)
-    (start .latch .now) (judged .result) (read .ensures) (judged .ensures) (near .before .before .before .before .before .if1 .left)
+    state-long (device .result) (start .state .now) (start .cells .now) (start .identification .now) (start .latch .now) (read .ensures) (judged .ensures)
+    (near .before .before .before .before .before .if1 .left)
 
 same-length-5 : tie.Need-same-length-5
 same-length-5 c = search needs
@@ -64,11 +69,9 @@ returns-2 c =
     let device = near .before .before .before .before .before .before .before .before .before .before .before .before .device-of in
     let read = near .before .before .before .before .before .before .before .before .before .before .state-of in
     let judged = near .before .before .before .before .before .before .world-refused in
-    let ran = near .run in
-    run-left (start .device) (device .result) (device .ensures)
-    (buffersOf (start .state .now) (start .cells .now) (start .identification .now) (start .latch .now))
-    (read .result) (read .ensures) (judged .result) (judged .ensures) (start .trace .now) (start .answers .now) (start .limit)
-    (near .before .before .before .before .before .if1 .left) (ran .result .number) (ran .result .taken) (ran .result .done) (ran .result .state) _ _ _ _ _ (ran .ensures)
+    run-left (start .device) (device .ensures) (buffersOf (start .state .now) (start .cells .now) (start .identification .now) (start .latch .now))
+    (read .ensures) (judged .ensures) (start .trace .now) (start .answers .now) (start .limit) (near .before .before .before .before .before .if1 .left)
+    (near .run .ensures)
     (c .before .before .put-state .ensures)
 
 pub m95-run-spec : {M : Type 1} → statement M

@@ -8,7 +8,7 @@ is-state-requires : tie.Need-is-state-requires
 is-state-requires c κs = search needs
 
 returns : tie.Need-returns
-returns c = status-none (c .before .before .before .args .state .now) (c .before .is-state .result) (c .before .is-state .ensures) (c .if1 .taken)
+returns c = status-none (c .before .before .before .args .state .now) (c .before .is-state .ensures) (c .if1 .taken)
 
 state-of-requires : tie.Need-state-of-requires
 state-of-requires c κs = search needs
@@ -17,7 +17,10 @@ status-byte-requires : tie.Need-status-byte-requires
 status-byte-requires c κs = search needs
 
 returns-2 : tie.Need-returns-2
-returns-2 c = status-told (c .before .before .before .before .before .args .state .now) (c .before .before .before .is-state .result) (c .before .before .before .is-state .ensures) (c .before .state-of .result) (c .status-byte .result) (c .before .before .if1 .left) (c .before .state-of .ensures) (c .status-byte .ensures)
+returns-2 c =
+    let start = c .before .before .before .before .before in
+    status-told (start .args .state .now) (c .before .before .before .is-state .ensures) (c .before .before .if1 .left) (c .before .state-of .ensures)
+    (c .status-byte .ensures)
 
 pub m95-status-byte-spec : {M : Type 1} → statement M
 m95-status-byte-spec =

@@ -8,7 +8,7 @@ is-state-requires : tie.Need-is-state-requires
 is-state-requires c κs = search needs
 
 returns : tie.Need-returns
-returns c = stored-none (c .before .before .before .args .state .now) (c .before .is-state .result) (c .before .is-state .ensures) (c .if1 .taken)
+returns c = stored-none (c .before .before .before .args .state .now) (c .before .is-state .ensures) (c .if1 .taken)
 
 state-of-requires : tie.Need-state-of-requires
 state-of-requires c κs = search needs
@@ -28,7 +28,7 @@ returns-2 c =
     let test = c .before .before .before .before .before .is-state in
     let read = c .before .before .before .state-of in
     let stored = c .before .before .stored in
-    stored-told (start .args .state .now) (test .result) (test .ensures) (read .result) (stored .result) (c .before .before .before .before .if1 .left) (read .ensures) (stored .ensures)
+    stored-told (start .args .state .now) (test .ensures) (c .before .before .before .before .if1 .left) (read .ensures) (stored .ensures)
 
 pub m95-stored-spec : {M : Type 1} → statement M
 m95-stored-spec =

@@ -14,10 +14,16 @@ is-device-requires : tie.Need-is-device-requires
 is-device-requires c κs = search needs
 
 returns : tie.Need-returns
-returns c = sizes-told (c .before .before .before .before .args .device) (c .before .before .before .device-of .result) (c .before .before .before .device-of .ensures) (c .before .before .row-of .result) (c .before .before .row-of .ensures) (c .before .is-device .result) (c .before .is-device .ensures) (c .if1 .taken)
+returns c =
+    let start = c .before .before .before .before in
+    sizes-told (start .args .device) (c .before .before .before .device-of .ensures) (c .before .before .row-of .ensures) (c .before .is-device .ensures)
+    (c .if1 .taken)
 
 returns-2 : tie.Need-returns-2
-returns-2 c = sizes-none (c .before .before .before .before .args .device) (c .before .before .before .device-of .result) (c .before .before .before .device-of .ensures) (c .before .before .row-of .result) (c .before .before .row-of .ensures) (c .before .is-device .result) (c .before .is-device .ensures) (c .if1 .left)
+returns-2 c =
+    let start = c .before .before .before .before in
+    sizes-none (start .args .device) (c .before .before .before .device-of .ensures) (c .before .before .row-of .ensures) (c .before .is-device .ensures)
+    (c .if1 .left)
 
 pub sizes-of-spec : {M : Type 1} → statement M
 sizes-of-spec =

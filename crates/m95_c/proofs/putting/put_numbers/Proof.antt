@@ -51,7 +51,17 @@ same-length : tie.Need-same-length
 same-length c = search needs
 
 returns : tie.Need-returns
-returns c = c .before .before .copy .ensures .1 ∙ put-over 12 _ (c .before .before .before .before .before .before .before .before .before .before .before .before .before .before .before .before .before .before .args .room .now) refl (c .before .before .before .before .before .before .before .before .before .before .before .before .before .before .before .before .before .before .pre) ∙ numbers-put (c .before .before .before .before .before .before .before .before .before .before .before .before .before .before .before .before .before .before .args .place) _ _ _ (four-put (c .before .before .before .before .before .before .before .before .before .before .before .before .before .before .before .before .before .before .args .place .address) (c .before .before .before .before .before .before .before .before .before .before .before .before .before .before .before .before .byte-of .result) (c .before .before .before .before .before .before .before .before .before .before .before .before .before .before .before .byte-of2 .result) (c .before .before .before .before .before .before .before .before .before .before .before .before .before .before .byte-of3 .result) (c .before .before .before .before .before .before .before .before .before .before .before .before .before .byte-of4 .result) (c .before .before .before .before .before .before .before .before .before .before .before .before .before .before .before .before .byte-of .ensures) (c .before .before .before .before .before .before .before .before .before .before .before .before .before .before .before .byte-of2 .ensures) (c .before .before .before .before .before .before .before .before .before .before .before .before .before .before .byte-of3 .ensures) (c .before .before .before .before .before .before .before .before .before .before .before .before .before .byte-of4 .ensures)) (four-put (c .before .before .before .before .before .before .before .before .before .before .before .before .before .before .before .before .before .before .args .place .start) (c .before .before .before .before .before .before .before .before .before .before .before .before .byte-of5 .result) (c .before .before .before .before .before .before .before .before .before .before .before .byte-of6 .result) (c .before .before .before .before .before .before .before .before .before .before .byte-of7 .result) (c .before .before .before .before .before .before .before .before .before .byte-of8 .result) (c .before .before .before .before .before .before .before .before .before .before .before .before .byte-of5 .ensures) (c .before .before .before .before .before .before .before .before .before .before .before .byte-of6 .ensures) (c .before .before .before .before .before .before .before .before .before .before .byte-of7 .ensures) (c .before .before .before .before .before .before .before .before .before .byte-of8 .ensures)) (four-put (c .before .before .before .before .before .before .before .before .before .before .before .before .before .before .before .before .before .before .args .place .left) (c .before .before .before .before .before .before .before .before .byte-of9 .result) (c .before .before .before .before .before .before .before .byte-of10 .result) (c .before .before .before .before .before .before .byte-of11 .result) (c .before .before .before .before .before .byte-of12 .result) (c .before .before .before .before .before .before .before .before .byte-of9 .ensures) (c .before .before .before .before .before .before .before .byte-of10 .ensures) (c .before .before .before .before .before .before .byte-of11 .ensures) (c .before .before .before .before .before .byte-of12 .ensures))
+returns c =
+    let left = c .before .before .before .before .before in
+    let from = left .before .before .before .before in
+    let address = from .before .before .before .before in
+    let start = address .before .before .before .before .before in
+    let place = start .args .place in
+    c .before .before .copy .ensures .1 ∙ put-over 12 _ (start .args .room .now) refl (start .pre)
+    ∙ numbers-put place
+    (four-put (place .address) (address .before .before .before .byte-of .ensures) (address .before .before .byte-of2 .ensures) (address .before .byte-of3 .ensures) (address .byte-of4 .ensures))
+    (four-put (place .start) (from .before .before .before .byte-of5 .ensures) (from .before .before .byte-of6 .ensures) (from .before .byte-of7 .ensures) (from .byte-of8 .ensures))
+    (four-put (place .left) (left .before .before .before .byte-of9 .ensures) (left .before .before .byte-of10 .ensures) (left .before .byte-of11 .ensures) (left .byte-of12 .ensures))
 
 pub put-numbers-spec : {M : Type 1} → statement M
 put-numbers-spec =

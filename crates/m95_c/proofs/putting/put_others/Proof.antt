@@ -24,7 +24,13 @@ same-length : tie.Need-same-length
 same-length c = search needs
 
 returns : tie.Need-returns
-returns c = c .before .before .copy .ensures .1 ∙ put-over 13 _ (c .before .before .before .before .before .before .before .before .before .before .before .before .args .room .now) refl (c .before .before .before .before .before .before .before .before .before .before .before .before .pre) ∙ others-put (c .before .before .before .before .before .before .before .before .before .before .before .before .args .s) (c .before .before .before .before .before .before .before .instruction-number .result) (c .before .before .before .before .before .before .level-number .result) (c .before .before .before .before .before .kind-number .result) (c .before .before .before .before .before .before .before .instruction-number .ensures) (c .before .before .before .before .before .before .level-number .ensures) (c .before .before .before .before .before .kind-number .ensures)
+returns c =
+    let kind = c .before .before .before .before .before in
+    let level = kind .before in
+    let instruction = level .before in
+    let start = instruction .before .before .before .before .before in
+    c .before .before .copy .ensures .1 ∙ put-over 13 _ (start .args .room .now) refl (start .pre)
+    ∙ others-put (start .args .s) (instruction .instruction-number .ensures) (level .level-number .ensures) (kind .kind-number .ensures)
 
 pub put-others-spec : {M : Type 1} → statement M
 put-others-spec =

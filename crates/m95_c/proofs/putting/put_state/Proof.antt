@@ -44,7 +44,12 @@ same-length : tie.Need-same-length
 same-length c = search needs
 
 returns : tie.Need-returns
-returns c = parts-put (c .before .before .before .before .before .before .before .before .before .before .before .before .before .args .s) (c .before .before .before .before .before .before .before .before .before .before .before .before .before .args .room .now) (c .before .before .before .before .before .before .before .before .before .before .put-numbers .last .0) (c .before .before .before .before .before .before .put-flags .last .0) (c .before .before .put-others .last .0) (c .before .before .before .before .before .before .before .before .before .before .before .before .before .pre) (c .before .before .before .before .before .before .before .before .before .before .put-numbers .ensures) (c .before .before .before .before .before .before .put-flags .ensures) (c .before .before .put-others .ensures)
+returns c =
+    let flags = c .before .before .before .before .before .before in
+    let numbers = flags .before .before .before .before in
+    let start = numbers .before .before .before in
+    parts-put (start .args .s) (start .args .room .now) (start .pre) (numbers .put-numbers .ensures) (flags .put-flags .ensures)
+    (c .before .before .put-others .ensures)
 
 pub put-state-spec : {M : Type 1} → statement M
 put-state-spec =

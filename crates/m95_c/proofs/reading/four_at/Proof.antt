@@ -15,7 +15,13 @@ two-at-requires-2 : tie.Need-two-at-requires-2
 two-at-requires-2 c κs = search needs
 
 four-requires : tie.Need-four-requires
-four-requires c κs = (two-small (c .before .before .before .args .bytes .now) (c .before .before .before .args .at) (c .before .two-at .result) (c .before .two-at .ensures) (λ i. c .before .before .shared-slice-known .given i .fits), two-small (c .before .before .before .args .bytes .now) (c .before .before .before .args .at + 2) (c .two-at2 .result) (c .two-at2 .ensures) (λ i. c .before .before .shared-slice-known .given i .fits))
+four-requires c κs =
+    let start = c .before .before .before in
+    let bytes = start .args .bytes .now in
+    let known = c .before .before .shared-slice-known .given in (
+      two-small bytes (start .args .at) (c .before .two-at .result) (c .before .two-at .ensures) (λ i. known i .fits),
+      two-small bytes (start .args .at + 2) (c .two-at2 .result) (c .two-at2 .ensures) (λ i. known i .fits),
+    )
 
 cast-result : tie.Need-cast-result
 cast-result c = search needs

@@ -1,5 +1,8 @@
 -- `m95_c::reading::instruction_at` meets its contract.
-use Rattle.m95_c.proofs.Packing.{instruction-past}
+use lib.ListN.{take}
+use native.Mathlib.Omega.{arith}
+use Rattle.m95_c.specs.StateBytes.{instructions}
+use Rattle.m95_c.proofs.Packing.{above, past-end}
 use borrow.Author.Needs.{needs}
 use Rattle.m95_c.proofs.reading.instruction_at.Statement.{statement}
 use Rattle.m95_c.proofs.reading.instruction_at.Tie as tie
@@ -35,7 +38,11 @@ returns-10 : tie.Need-returns-10
 returns-10 c = search needs
 
 returns-11 : tie.Need-returns-11
-returns-11 c = instruction-past (c .before .args .place) (c .match .rest .0 .0 .0 .0 .0 .0 .0 .0 .0 .1) (c .match .rest .0 .0 .0 .0 .0 .0 .0 .0 .1) (c .match .rest .0 .0 .0 .0 .0 .0 .0 .1) (c .match .rest .0 .0 .0 .0 .0 .0 .1) (c .match .rest .0 .0 .0 .0 .0 .1) (c .match .rest .0 .0 .0 .0 .1) (c .match .rest .0 .0 .0 .1) (c .match .rest .0 .0 .1) (c .match .rest .0 .1) (c .match .rest .1)
+returns-11 c =
+    let none = c .match .rest in
+    past-end (take 10 instructions) (c .before .args .place)
+    (above 9 (none .1) (above 8 (none .0 .1) (above 7 (none .0 .0 .1) (above 6 (none .0 .0 .0 .1) (above 5 (none .0 .0 .0 .0 .1)
+    (above 4 (none .0 .0 .0 .0 .0 .1) (above 3 (none .0 .0 .0 .0 .0 .0 .1) (above 2 (none .0 .0 .0 .0 .0 .0 .0 .1) (above 1 (none .0 .0 .0 .0 .0 .0 .0 .0 .1) (above 0 (none .0 .0 .0 .0 .0 .0 .0 .0 .0 .1) (omega arith)))))))))))
 
 pub instruction-at-spec : {M : Type 1} → statement M
 instruction-at-spec =

@@ -29,7 +29,10 @@ shared-slice-read-result-3 : tie.Need-shared-slice-read-result-3
 shared-slice-read-result-3 c = search needs
 
 returns-2 : tie.Need-returns-2
-returns-2 c = right-length (c .before .before .before .before .before .before .before .args .bytes .now) (c .before .before .before .are-marks .result) (c .before .before .before .before .before .if1 .left) (c .before .before .before .are-marks .ensures)
+returns-2 c =
+    let long = c .before .before .before .before .before in
+    let start = long .before .before in
+    right-length (start .args .bytes .now) (long .if1 .left) (c .before .before .before .are-marks .ensures)
 
 pub is-state-spec : {M : Type 1} → statement M
 is-state-spec =

@@ -1,5 +1,8 @@
 -- `m95_c::reading::level_at` meets its contract.
-use Rattle.m95_c.proofs.Packing.{level-past}
+use lib.ListN.{take}
+use native.Mathlib.Omega.{arith}
+use Rattle.m95_c.specs.StateBytes.{levels}
+use Rattle.m95_c.proofs.Packing.{past-end}
 use borrow.Author.Needs.{needs}
 use Rattle.m95_c.proofs.reading.level_at.Statement.{statement}
 use Rattle.m95_c.proofs.reading.level_at.Tie as tie
@@ -11,7 +14,7 @@ returns-2 : tie.Need-returns-2
 returns-2 c = search needs
 
 returns-3 : tie.Need-returns-3
-returns-3 c = level-past (c .before .args .place) (c .match .rest .0 .1) (c .match .rest .1)
+returns-3 c = past-end (take 2 levels) (c .before .args .place) (omega arith)
 
 pub level-at-spec : {M : Type 1} → statement M
 level-at-spec = tie.close (tie.spec returns returns-2 returns-3)

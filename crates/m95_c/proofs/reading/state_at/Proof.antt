@@ -31,7 +31,22 @@ filler-at-requires : tie.Need-filler-at-requires
 filler-at-requires c κs = search needs
 
 returns : tie.Need-returns
-returns c = rw (c .before .before .before .before .before .before .before .before .place-at .ensures, c .before .before .before .before .before .before .before .pins-at .ensures, c .before .before .before .before .before .before .selection-at .ensures, c .before .before .before .before .before .input-at .ensures, c .before .before .before .before .command-at .ensures, c .before .before .before .output-at .ensures, c .before .before .registers-at .ensures, c .before .cycle-at .ensures, c .filler-at .ensures)
+returns c =
+    let command = c .before .before .before .before in
+    let input = command .before in
+    let selection = input .before in
+    let pins = selection .before in
+    rw (
+      pins .before .place-at .ensures,
+      pins .pins-at .ensures,
+      selection .selection-at .ensures,
+      input .input-at .ensures,
+      command .command-at .ensures,
+      c .before .before .before .output-at .ensures,
+      c .before .before .registers-at .ensures,
+      c .before .cycle-at .ensures,
+      c .filler-at .ensures,
+    )
 
 pub state-at-spec : {M : Type 1} → statement M
 state-at-spec =

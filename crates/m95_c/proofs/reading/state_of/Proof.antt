@@ -11,13 +11,17 @@ no-state-requires : tie.Need-no-state-requires
 no-state-requires c κs = search needs
 
 returns : tie.Need-returns
-returns c = of-none (c .before .before .before .before .args .bytes .now) (c .before .before .is-state .result) (c .before .before .is-state .ensures) _ (c .before .if1 .taken) (c .no-state .ensures)
+returns c =
+    let start = c .before .before .before .before in
+    of-none (start .args .bytes .now) (c .before .before .is-state .ensures) (c .before .if1 .taken) (c .no-state .ensures)
 
 state-at-requires : tie.Need-state-at-requires
-state-at-requires c κs = long-enough (c .before .before .before .args .bytes .now) (c .before .is-state .result) (c .before .is-state .ensures) (c .if1 .left)
+state-at-requires c κs = long-enough (c .before .before .before .args .bytes .now) (c .before .is-state .ensures) (c .if1 .left)
 
 returns-2 : tie.Need-returns-2
-returns-2 c = of-state (c .before .before .before .before .args .bytes .now) (c .before .before .is-state .result) (c .before .before .is-state .ensures) _ (c .before .if1 .left) (c .state-at .ensures)
+returns-2 c =
+    let start = c .before .before .before .before in
+    of-state (start .args .bytes .now) (c .before .before .is-state .ensures) (c .before .if1 .left) (c .state-at .ensures)
 
 pub state-of-spec : {M : Type 1} → statement M
 state-of-spec =
