@@ -153,7 +153,7 @@ module _ (n : ℕ) {d : ℕ} (ed : d ≡ deviceOf n) (b : Buffers) {s : State} (
   unfolding runLeft
   run-left z eo eb = rw (← ed, ← es, ← em, z, ← eo, eb)
 
--- The status.
+-- The status, and what is stored.
 module _ (b : List ℕ) {t : Bool} (et : t ≡ isState b) where
   pub status-none : not t ≡ true → toldAs 5 0 ≡ statusLeft b
   unfolding statusLeft
@@ -163,8 +163,6 @@ module _ (b : List ℕ) {t : Bool} (et : t ≡ isState b) where
   unfolding statusLeft stateOf
   status-told h es en = rw (← et, not-false t h, en, es, ← et, not-false t h)
 
--- What is stored.
-module _ (b : List ℕ) {t : Bool} (et : t ≡ isState b) where
   pub stored-none : not t ≡ true → keptAs 5 0 0 ≡ storedLeft b
   unfolding storedLeft
   stored-none h = rw (← et, not-true t h)

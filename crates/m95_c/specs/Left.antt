@@ -6,7 +6,7 @@ use Rattle.rules.specs.Device.{isDevice, rowOf}
 use Rattle.rules.specs.Send.{statusByte}
 use Rattle.rules.specs.Trace.{lengthOf, pinEvent}
 use Rattle.rules.specs.Call.{worldRefusal, prepareOutcome, storedAs, storedIn, loadOutcome, eventOutcome, runOutcome, cellPageOutcome, identificationPageOutcome}
-use Rattle.m95_c.specs.declared.Sizes.{Sizes}
+use Rattle.m95_c.specs.declared.showing.Sizes.{Sizes}
 use Rattle.m95_c.specs.StateBytes.{stateLength, isState, stateOf, stateAt, noState, bytesOf}
 
 -- A number above a byte's is no device's, as 0 is.

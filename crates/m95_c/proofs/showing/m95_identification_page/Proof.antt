@@ -1,8 +1,8 @@
--- `m95_c::m95_identification_page` meets its contract.
+-- `m95_c::showing::m95_identification_page` meets its contract.
 use Rattle.m95_c.proofs.Leaving.{page-refused, page-placed}
 use borrow.Author.Needs.{needs}
-use Rattle.m95_c.proofs.m95_identification_page.Statement.{statement}
-use Rattle.m95_c.proofs.m95_identification_page.Tie as tie
+use Rattle.m95_c.proofs.showing.m95_identification_page.Statement.{statement}
+use Rattle.m95_c.proofs.showing.m95_identification_page.Tie as tie
 
 device-of-requires : tie.Need-device-of-requires
 device-of-requires c κs = search needs

@@ -1,9 +1,9 @@
--- `m95_c::event_of` meets its contract.
+-- `m95_c::numbers::event_of` meets its contract.
 use native.Mathlib.Omega.{arith}
 use Rattle.m95_c.proofs.Leaving.{event-pin, event-wait, event-power, pin-small}
 use borrow.Author.Needs.{needs}
-use Rattle.m95_c.proofs.event_of.Statement.{statement}
-use Rattle.m95_c.proofs.event_of.Tie as tie
+use Rattle.m95_c.proofs.numbers.event_of.Statement.{statement}
+use Rattle.m95_c.proofs.numbers.event_of.Tie as tie
 
 cast-pin-event : tie.Need-cast-pin-event
 cast-pin-event c = omega (arith, pin-small (c .before .args .kind) (c .before .args .value) (c .before .pre) (c .match .keys1))

@@ -1,9 +1,9 @@
--- `m95_c::m95_cells` meets its contract.
+-- `m95_c::showing::m95_cells` meets its contract.
 use mathlib.Core.Path.{ap}
-use Rattle.m95_c.specs.declared.Sizes.{Sizes}
+use Rattle.m95_c.specs.declared.showing.Sizes.{Sizes}
 use borrow.Author.Needs.{needs}
-use Rattle.m95_c.proofs.m95_cells.Statement.{statement}
-use Rattle.m95_c.proofs.m95_cells.Tie as tie
+use Rattle.m95_c.proofs.showing.m95_cells.Statement.{statement}
+use Rattle.m95_c.proofs.showing.m95_cells.Tie as tie
 
 sizes-of-requires : tie.Need-sizes-of-requires
 sizes-of-requires c κs = search needs

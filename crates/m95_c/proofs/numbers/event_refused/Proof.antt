@@ -1,9 +1,9 @@
--- `m95_c::event_refused` meets its contract.
+-- `m95_c::numbers::event_refused` meets its contract.
 use mathlib.Core.Path.{sym, _∙_}
 use Rattle.m95_c.proofs.Leaving.{event-none, event-pinless, event-some}
 use borrow.Author.Needs.{needs}
-use Rattle.m95_c.proofs.event_refused.Statement.{statement}
-use Rattle.m95_c.proofs.event_refused.Tie as tie
+use Rattle.m95_c.proofs.numbers.event_refused.Statement.{statement}
+use Rattle.m95_c.proofs.numbers.event_refused.Tie as tie
 
 length-of-requires : tie.Need-length-of-requires
 length-of-requires c κs = search needs

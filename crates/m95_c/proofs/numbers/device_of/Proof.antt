@@ -1,8 +1,8 @@
--- `m95_c::device_of` meets its contract.
+-- `m95_c::numbers::device_of` meets its contract.
 use Rattle.m95_c.proofs.Leaving.{byte-kept, none-taken}
 use borrow.Author.Needs.{needs}
-use Rattle.m95_c.proofs.device_of.Statement.{statement}
-use Rattle.m95_c.proofs.device_of.Tie as tie
+use Rattle.m95_c.proofs.numbers.device_of.Statement.{statement}
+use Rattle.m95_c.proofs.numbers.device_of.Tie as tie
 
 cast-result : tie.Need-cast-result
 cast-result c = search needs

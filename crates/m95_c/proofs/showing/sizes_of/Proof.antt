@@ -1,8 +1,8 @@
--- `m95_c::sizes_of` meets its contract.
+-- `m95_c::showing::sizes_of` meets its contract.
 use Rattle.m95_c.proofs.Leaving.{sizes-told, sizes-none}
 use borrow.Author.Needs.{needs}
-use Rattle.m95_c.proofs.sizes_of.Statement.{statement}
-use Rattle.m95_c.proofs.sizes_of.Tie as tie
+use Rattle.m95_c.proofs.showing.sizes_of.Statement.{statement}
+use Rattle.m95_c.proofs.showing.sizes_of.Tie as tie
 
 device-of-requires : tie.Need-device-of-requires
 device-of-requires c κs = search needs

@@ -1,10 +1,10 @@
--- `m95_c::m95_cell_page` meets its contract.
+-- `m95_c::showing::m95_cell_page` meets its contract.
 use native.Mathlib.Nat.{mod-le}
 use Rattle.m95.proofs.Calling.{row-widths}
 use Rattle.m95_c.proofs.Leaving.{cell-page-refused, cell-page-placed}
 use borrow.Author.Needs.{needs}
-use Rattle.m95_c.proofs.m95_cell_page.Statement.{statement}
-use Rattle.m95_c.proofs.m95_cell_page.Tie as tie
+use Rattle.m95_c.proofs.showing.m95_cell_page.Statement.{statement}
+use Rattle.m95_c.proofs.showing.m95_cell_page.Tie as tie
 
 device-of-requires : tie.Need-device-of-requires
 device-of-requires c κs = search needs

@@ -1,8 +1,8 @@
--- `m95_c::byte_for` meets its contract.
+-- `m95_c::numbers::byte_for` meets its contract.
 use Rattle.m95_c.proofs.Leaving.{byte-kept, none-taken}
 use borrow.Author.Needs.{needs}
-use Rattle.m95_c.proofs.byte_for.Statement.{statement}
-use Rattle.m95_c.proofs.byte_for.Tie as tie
+use Rattle.m95_c.proofs.numbers.byte_for.Statement.{statement}
+use Rattle.m95_c.proofs.numbers.byte_for.Tie as tie
 
 cast-result : tie.Need-cast-result
 cast-result c = search needs

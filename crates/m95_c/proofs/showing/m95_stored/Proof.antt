@@ -1,8 +1,8 @@
--- `m95_c::m95_stored` meets its contract.
+-- `m95_c::showing::m95_stored` meets its contract.
 use Rattle.m95_c.proofs.Leaving.{stored-none, stored-told}
 use borrow.Author.Needs.{needs}
-use Rattle.m95_c.proofs.m95_stored.Statement.{statement}
-use Rattle.m95_c.proofs.m95_stored.Tie as tie
+use Rattle.m95_c.proofs.showing.m95_stored.Statement.{statement}
+use Rattle.m95_c.proofs.showing.m95_stored.Tie as tie
 
 is-state-requires : tie.Need-is-state-requires
 is-state-requires c κs = search needs
