@@ -8,7 +8,7 @@ cast-result : tie.Need-cast-result
 cast-result c = search needs
 
 returns : tie.Need-returns
-returns c = byte-kept 0 (c .before .args .number) (c .if1 .taken)
+returns c = byte-kept _ (c .before .args .number) (c .if1 .taken)
 
 returns-2 : tie.Need-returns-2
 returns-2 c = none-taken 0 (c .before .args .number) (c .if1 .left)
