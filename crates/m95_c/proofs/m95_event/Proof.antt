@@ -78,27 +78,27 @@ same-length-12 c = search needs
 
 returns-3 : tie.Need-returns-3
 returns-3 c =
-    let near = c .before .before .before .before .before .before .before .before in
-    let start = near .before .before .before .before .before .before .before .before .before .before .before .before .before .before .before .before .before .before .before .args in
-    let device = near .before .before .before .before .before .before .before .before .before .before .before .before .before .before .device-of in
-    let read = near .before .before .before .before .before .before .before .before .before .before .before .before .state-of in
-    let asked = near .before .before .before .before .before .before .before .before .before .before .before .event-refused in
-    let judged = near .before .before .before .before .before .before .before .world-refused in
-    let whole = near .before .before .before .before .before .before .if1 .left in
-    let good = near .before .before .before .before .before .if2 .left in
+    let at-event = c .before .before .before .before .before .before .before .before in
+    let start = at-event .before .before .before .before .before .before .before .before .before .before .before .before .before .before .before .before .before .before .before .args in
+    let device = at-event .before .before .before .before .before .before .before .before .before .before .before .before .before .before .device-of in
+    let read = at-event .before .before .before .before .before .before .before .before .before .before .before .before .state-of in
+    let asked = at-event .before .before .before .before .before .before .before .before .before .before .before .event-refused in
+    let judged = at-event .before .before .before .before .before .before .before .world-refused in
+    let whole = at-event .before .before .before .before .before .before .if1 .left in
+    let good = at-event .before .before .before .before .before .if2 .left in
     event-refused (start .device) (device .ensures) (buffersOf (start .state .now) (start .cells .now) (start .identification .now) (start .latch .now))
-    (read .ensures) (judged .ensures) (start .kind) (start .value) whole (asked .ensures) good (near .before .event-of .ensures) (near .event .ensures)
+    (read .ensures) (judged .ensures) (start .kind) (start .value) whole (asked .ensures) good (at-event .before .event-of .ensures) (at-event .event .ensures)
     (c .if3 .taken)
 
 put-state-requires : tie.Need-put-state-requires
 put-state-requires c κs =
-    let near = c .before .before .before .before .before .before .before .before .before in
-    let start = near .before .before .before .before .before .before .before .before .before .before .before .before .before .before .before .before .before .before .before .args in
-    let device = near .before .before .before .before .before .before .before .before .before .before .before .before .before .before .device-of in
-    let read = near .before .before .before .before .before .before .before .before .before .before .before .before .state-of in
-    let judged = near .before .before .before .before .before .before .before .world-refused in
-    state-long (device .result) (start .state .now) (start .cells .now) (start .identification .now) (start .latch .now) (read .ensures) (judged .ensures)
-    (near .before .before .before .before .before .before .if1 .left)
+    let at-event = c .before .before .before .before .before .before .before .before .before in
+    let start = at-event .before .before .before .before .before .before .before .before .before .before .before .before .before .before .before .before .before .before .before .args in
+    let device = at-event .before .before .before .before .before .before .before .before .before .before .before .before .before .before .device-of in
+    let read = at-event .before .before .before .before .before .before .before .before .before .before .before .before .state-of in
+    let judged = at-event .before .before .before .before .before .before .before .world-refused in
+    let whole = at-event .before .before .before .before .before .before .if1 .left in
+    state-long (device .result) (start .state .now) (start .cells .now) (start .identification .now) (start .latch .now) (read .ensures) (judged .ensures) whole
 
 same-length-13 : tie.Need-same-length-13
 same-length-13 c = search needs
@@ -114,17 +114,18 @@ same-length-16 c = search needs
 
 returns-4 : tie.Need-returns-4
 returns-4 c =
-    let near = c .before .before .before .before .before .before .before .before .before .before .before .before in
-    let start = near .before .before .before .before .before .before .before .before .before .before .before .before .before .before .before .before .before .before .before .args in
-    let device = near .before .before .before .before .before .before .before .before .before .before .before .before .before .before .device-of in
-    let read = near .before .before .before .before .before .before .before .before .before .before .before .before .state-of in
-    let asked = near .before .before .before .before .before .before .before .before .before .before .before .event-refused in
-    let judged = near .before .before .before .before .before .before .before .world-refused in
-    let whole = near .before .before .before .before .before .before .if1 .left in
-    let good = near .before .before .before .before .before .if2 .left in
+    let taken = c .before .before .before .before .if3 .left in
+    let at-event = c .before .before .before .before .before .before .before .before .before .before .before .before in
+    let start = at-event .before .before .before .before .before .before .before .before .before .before .before .before .before .before .before .before .before .before .before .args in
+    let device = at-event .before .before .before .before .before .before .before .before .before .before .before .before .before .before .device-of in
+    let read = at-event .before .before .before .before .before .before .before .before .before .before .before .before .state-of in
+    let asked = at-event .before .before .before .before .before .before .before .before .before .before .before .event-refused in
+    let judged = at-event .before .before .before .before .before .before .before .world-refused in
+    let whole = at-event .before .before .before .before .before .before .if1 .left in
+    let good = at-event .before .before .before .before .before .if2 .left in
     event-done (start .device) (device .ensures) (buffersOf (start .state .now) (start .cells .now) (start .identification .now) (start .latch .now))
-    (read .ensures) (judged .ensures) (start .kind) (start .value) whole (asked .ensures) good (near .before .event-of .ensures) (near .event .ensures)
-    (c .before .before .before .before .if3 .left) (c .before .before .put-state .ensures)
+    (read .ensures) (judged .ensures) (start .kind) (start .value) whole (asked .ensures) good (at-event .before .event-of .ensures) (at-event .event .ensures)
+    taken (c .before .before .put-state .ensures)
 
 pub m95-event-spec : {M : Type 1} → statement M
 m95-event-spec =

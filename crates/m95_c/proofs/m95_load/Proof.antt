@@ -49,9 +49,10 @@ returns-3 c =
     let lock = c .before .before .before .before .before .before .before .before .before .byte-for2 in
     let device = c .before .before .before .before .before .before .before .before .device-of in
     let loaded = c .before .before .before .before .before .before .before .load in
+    let good = c .before .before .before .before .before .if1 .left in
+    let room = c .before .before .before .before .if2 .left in
     load-room (start .args .device) (start .args .status) (start .args .lock) (device .ensures) (status .ensures) (lock .ensures)
-    (start .args .state .now) (loaded .ensures)
-    (c .before .before .before .before .before .if1 .left) (c .before .before .before .before .if2 .left) (c .before .before .put-state .ensures)
+    (start .args .state .now) (loaded .ensures) good room (c .before .before .put-state .ensures)
 
 pub m95-load-spec : {M : Type 1} → statement M
 m95-load-spec =

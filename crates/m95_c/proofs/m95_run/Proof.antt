@@ -39,13 +39,13 @@ run-requires c κs = search needs
 
 put-state-requires : tie.Need-put-state-requires
 put-state-requires c κs =
-    let near = c .before .before .before .before .before .before .before .before .before in
-    let start = near .before .before .before .before .before .before .before .before .before .before .before .before .before .before .before .before .before .before .before .args in
-    let device = near .before .before .before .before .before .before .before .before .before .before .before .before .device-of in
-    let read = near .before .before .before .before .before .before .before .before .before .before .state-of in
-    let judged = near .before .before .before .before .before .before .world-refused in
-    state-long (device .result) (start .state .now) (start .cells .now) (start .identification .now) (start .latch .now) (read .ensures) (judged .ensures)
-    (near .before .before .before .before .before .if1 .left)
+    let at-run = c .before .before .before .before .before .before .before .before .before in
+    let start = at-run .before .before .before .before .before .before .before .before .before .before .before .before .before .before .before .before .before .before .before .args in
+    let device = at-run .before .before .before .before .before .before .before .before .before .before .before .before .device-of in
+    let read = at-run .before .before .before .before .before .before .before .before .before .before .state-of in
+    let judged = at-run .before .before .before .before .before .before .world-refused in
+    let whole = at-run .before .before .before .before .before .if1 .left in
+    state-long (device .result) (start .state .now) (start .cells .now) (start .identification .now) (start .latch .now) (read .ensures) (judged .ensures) whole
 
 same-length-5 : tie.Need-same-length-5
 same-length-5 c = search needs
@@ -64,14 +64,15 @@ same-length-9 c = search needs
 
 returns-2 : tie.Need-returns-2
 returns-2 c =
-    let near = c .before .before .before .before .before .before .before .before .before .before .before .before in
-    let start = near .before .before .before .before .before .before .before .before .before .before .before .before .before .before .before .before .before .before .before .args in
-    let device = near .before .before .before .before .before .before .before .before .before .before .before .before .device-of in
-    let read = near .before .before .before .before .before .before .before .before .before .before .state-of in
-    let judged = near .before .before .before .before .before .before .world-refused in
+    let at-run = c .before .before .before .before .before .before .before .before .before .before .before .before in
+    let start = at-run .before .before .before .before .before .before .before .before .before .before .before .before .before .before .before .before .before .before .before .args in
+    let device = at-run .before .before .before .before .before .before .before .before .before .before .before .before .device-of in
+    let read = at-run .before .before .before .before .before .before .before .before .before .before .state-of in
+    let judged = at-run .before .before .before .before .before .before .world-refused in
+    let whole = at-run .before .before .before .before .before .if1 .left in
     run-left (start .device) (device .ensures) (buffersOf (start .state .now) (start .cells .now) (start .identification .now) (start .latch .now))
-    (read .ensures) (judged .ensures) (start .trace .now) (start .answers .now) (start .limit) (near .before .before .before .before .before .if1 .left)
-    (near .run .ensures)
+    (read .ensures) (judged .ensures) (start .trace .now) (start .answers .now) (start .limit) whole
+    (at-run .run .ensures)
     (c .before .before .put-state .ensures)
 
 pub m95-run-spec : {M : Type 1} → statement M

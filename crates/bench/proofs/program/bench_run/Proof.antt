@@ -17,7 +17,8 @@ run-requires c κs = search needs
 same-length : tie.Need-same-length
 same-length c =
     let ran = c .before .before .before .before .before .before .before in
-    ran .cells2 .given ∙ ran .before .before .before .before .before .before .before .before .before .before .before .before .before .before .before .before .cells .given
+    let ready = ran .before .before .before .before .before .before .before .before .before .before .before .before .before .before .before .before in
+    ran .cells2 .given ∙ ready .cells .given
 
 same-length-2 : tie.Need-same-length-2
 same-length-2 c = search needs

@@ -41,8 +41,9 @@ returns-11 : tie.Need-returns-11
 returns-11 c =
     let none = c .match .rest in
     past-end (take 10 instructions) (c .before .args .place)
-    (above 9 (none .1) (above 8 (none .0 .1) (above 7 (none .0 .0 .1) (above 6 (none .0 .0 .0 .1) (above 5 (none .0 .0 .0 .0 .1)
-    (above 4 (none .0 .0 .0 .0 .0 .1) (above 3 (none .0 .0 .0 .0 .0 .0 .1) (above 2 (none .0 .0 .0 .0 .0 .0 .0 .1) (above 1 (none .0 .0 .0 .0 .0 .0 .0 .0 .1) (above 0 (none .0 .0 .0 .0 .0 .0 .0 .0 .0 .1) (omega arith)))))))))))
+    (above 9 (none .1) (above 8 (none .0 .1) (above 7 (none .0 .0 .1) (above 6 (none .0 .0 .0 .1) (above 5 (none .0 .0 .0 .0 .1) (above 4 (none .0 .0 .0 .0 .0 .1)
+    (above 3 (none .0 .0 .0 .0 .0 .0 .1) (above 2 (none .0 .0 .0 .0 .0 .0 .0 .1) (above 1 (none .0 .0 .0 .0 .0 .0 .0 .0 .1)
+    (above 0 (none .0 .0 .0 .0 .0 .0 .0 .0 .0 .1) (omega arith)))))))))))
 
 pub instruction-at-spec : {M : Type 1} → statement M
 instruction-at-spec =

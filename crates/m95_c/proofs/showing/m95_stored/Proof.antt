@@ -26,9 +26,10 @@ returns-2 : tie.Need-returns-2
 returns-2 c =
     let start = c .before .before .before .before .before .before .before in
     let test = c .before .before .before .before .before .is-state in
+    let known = c .before .before .before .before .if1 .left in
     let read = c .before .before .before .state-of in
     let stored = c .before .before .stored in
-    stored-told (start .args .state .now) (test .ensures) (c .before .before .before .before .if1 .left) (read .ensures) (stored .ensures)
+    stored-told (start .args .state .now) (test .ensures) known (read .ensures) (stored .ensures)
 
 pub m95-stored-spec : {M : Type 1} → statement M
 m95-stored-spec =
