@@ -1,5 +1,8 @@
 -- `tables::decode` meets its contract.
-use Rattle.tables.proofs.Looks.{decode-rdid, decode-wrid, decode-plain, plain-none}
+use mathlib.Core.Path.{_≡_}
+use Rattle.rules.specs.declared.Instruction.{Instruction}
+use Rattle.rules.specs.Instruction.{decode}
+use Rattle.tables.proofs.Looks.{decode-rdid, decode-wrid, plainly, decode-plain, plain-none}
 use borrow.Author.Needs.{needs}
 use Rattle.tables.proofs.decode.Statement.{statement}
 use Rattle.tables.proofs.decode.Tie as tie
@@ -15,55 +18,35 @@ returns-2 c =
 plain-requires : tie.Need-plain-requires
 plain-requires c κs = search needs
 
+-- Past the two codes that are looked up as they are, the plain one decides.
+looked : (at : tie.After-plain) {i : Instruction} → i ≡ plainly (at .plain .result) → i ≡ decode (at .before .before .before .args .row) (at .before .before .before .args .code)
+looked at e =
+    let start = at .before .before .before in
+    decode-plain (start .args .row) (start .args .code) (at .plain .ensures) (at .before .before .if1 .left) (at .before .if2 .left) e
+
 returns-3 : tie.Need-returns-3
-returns-3 c =
-    let looked = c .before in
-    let start = looked .before .before .before in
-    decode-plain (start .args .row) (start .args .code) (looked .plain .ensures) (looked .before .before .if1 .left) (looked .before .if2 .left)
-    (rw (c .match .keys1))
+returns-3 c = looked (c .before) (rw (c .match .keys1))
 
 returns-4 : tie.Need-returns-4
-returns-4 c =
-    let looked = c .before in
-    let start = looked .before .before .before in
-    decode-plain (start .args .row) (start .args .code) (looked .plain .ensures) (looked .before .before .if1 .left) (looked .before .if2 .left)
-    (rw (c .match .keys2))
+returns-4 c = looked (c .before) (rw (c .match .keys2))
 
 returns-5 : tie.Need-returns-5
-returns-5 c =
-    let looked = c .before in
-    let start = looked .before .before .before in
-    decode-plain (start .args .row) (start .args .code) (looked .plain .ensures) (looked .before .before .if1 .left) (looked .before .if2 .left)
-    (rw (c .match .keys3))
+returns-5 c = looked (c .before) (rw (c .match .keys3))
 
 returns-6 : tie.Need-returns-6
-returns-6 c =
-    let looked = c .before in
-    let start = looked .before .before .before in
-    decode-plain (start .args .row) (start .args .code) (looked .plain .ensures) (looked .before .before .if1 .left) (looked .before .if2 .left)
-    (rw (c .match .keys4))
+returns-6 c = looked (c .before) (rw (c .match .keys4))
 
 returns-7 : tie.Need-returns-7
-returns-7 c =
-    let looked = c .before in
-    let start = looked .before .before .before in
-    decode-plain (start .args .row) (start .args .code) (looked .plain .ensures) (looked .before .before .if1 .left) (looked .before .if2 .left)
-    (rw (c .match .keys5))
+returns-7 c = looked (c .before) (rw (c .match .keys5))
 
 returns-8 : tie.Need-returns-8
-returns-8 c =
-    let looked = c .before in
-    let start = looked .before .before .before in
-    decode-plain (start .args .row) (start .args .code) (looked .plain .ensures) (looked .before .before .if1 .left) (looked .before .if2 .left)
-    (rw (c .match .keys6))
+returns-8 c = looked (c .before) (rw (c .match .keys6))
 
 returns-9 : tie.Need-returns-9
 returns-9 c =
-    let looked = c .before in
-    let start = looked .before .before .before in
     let none = c .match .rest in
-    decode-plain (start .args .row) (start .args .code) (looked .plain .ensures) (looked .before .before .if1 .left) (looked .before .if2 .left)
-    (plain-none (looked .plain .result) (none .0 .0 .0 .0 .0 .1) (none .0 .0 .0 .0 .1) (none .0 .0 .0 .1) (none .0 .0 .1) (none .0 .1) (none .1))
+    looked (c .before)
+    (plain-none (c .before .plain .result) (none .0 .0 .0 .0 .0 .1) (none .0 .0 .0 .0 .1) (none .0 .0 .0 .1) (none .0 .0 .1) (none .0 .1) (none .1))
 
 pub decode-spec : {M : Type 1} → statement M
 decode-spec =
