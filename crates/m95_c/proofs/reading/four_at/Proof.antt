@@ -19,8 +19,8 @@ four-requires c κs =
     let start = c .before .before .before in
     let bytes = start .args .bytes .now in
     let known = c .before .before .shared-slice-known .given in (
-      two-small bytes (start .args .at) (c .before .two-at .result) (c .before .two-at .ensures) (λ i. known i .fits),
-      two-small bytes (start .args .at + 2) (c .two-at2 .result) (c .two-at2 .ensures) (λ i. known i .fits),
+      two-small bytes (start .args .at) (c .before .two-at .ensures) (λ i. known i .fits),
+      two-small bytes (start .args .at + 2) (c .two-at2 .ensures) (λ i. known i .fits),
     )
 
 cast-result : tie.Need-cast-result
