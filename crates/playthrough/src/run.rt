@@ -3,6 +3,7 @@
 ghost use Prim.Native.Nat.{_≤_};
 ghost use mathlib.Core.Path.{_≡_};
 ghost use lib.ListN.{length};
+ghost use Rattle.io.specs.Counts.{Counts};
 ghost use Rattle.rules.specs.World.{worldOf};
 ghost use Rattle.rules.specs.Call.{lentRefusal, worldRefusal};
 use crate::chip::replace;
@@ -69,6 +70,38 @@ fn play_into(
     played
 }
 
+// A trace, and how much of it is in the buffer. There is no descriptor where it cannot be read.
+struct Begun {
+    pub input: i32,
+    pub count: usize,
+}
+
+// Opens TRACE, and reads as much of it as the buffer holds. Trouble is told.
+fn begin(trace: &[u8], buf: &mut [u8]) -> Begun
+    ensures { λ r. ⌜ Counts (r .count) (now (buf .exit)) ⌝ }
+{
+    let input = os::open_read(trace);
+    if input < 0 {
+        fail(b"play: cannot read the trace ", trace);
+        return Begun {
+            input: -1,
+            count: 0,
+        };
+    }
+    let read = files::read_up(input, buf);
+    if read.failed {
+        fail(b"play: cannot read the trace ", trace);
+        return Begun {
+            input: -1,
+            count: 0,
+        };
+    }
+    Begun {
+        input: input,
+        count: read.count,
+    }
+}
+
 // Plays the trace on a chip that is loaded. TRACE is read, and NEW is open, before ANSWERS is touched.
 fn play_loaded(
     device: u8,
@@ -84,15 +117,10 @@ fn play_loaded(
     requires { ⌜ worldRefusal device (worldOf state (now cells) (now identification) (now latch)) ≡ 0 ⌝ }
 {
     let mut buf = io::large_buffer();
-    let input = os::open_read(trace);
+    let begun = begin(trace, &mut buf);
+    let input = begun.input;
+    let count = begun.count;
     if input < 0 {
-        fail(b"play: cannot read the trace ", trace);
-        return;
-    }
-    let read = files::read_up(input, &mut buf);
-    let count = read.count;
-    if read.failed {
-        fail(b"play: cannot read the trace ", trace);
         return;
     }
     let fresh = os::open_overwrite(new);

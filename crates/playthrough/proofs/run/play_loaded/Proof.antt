@@ -12,8 +12,17 @@ use Rattle.playthrough.proofs.run.play_loaded.Tie as tie
 large-buffer-requires : tie.Need-large-buffer-requires
 large-buffer-requires c κs = search needs
 
-open-read-requires : tie.Need-open-read-requires
-open-read-requires c κs = search needs
+slice-aggregate-begin : tie.Need-slice-aggregate-begin
+slice-aggregate-begin c = search needs
+
+begin-requires : tie.Need-begin-requires
+begin-requires c κs = search needs
+
+returns : tie.Need-returns
+returns c = search needs
+
+open-overwrite-requires : tie.Need-open-overwrite-requires
+open-overwrite-requires c κs = search needs
 
 slice-aggregate-fail : tie.Need-slice-aggregate-fail
 slice-aggregate-fail c = search needs
@@ -21,35 +30,8 @@ slice-aggregate-fail c = search needs
 fail-requires : tie.Need-fail-requires
 fail-requires c κs = search needs
 
-returns : tie.Need-returns
-returns c = search needs
-
-slice-aggregate-read-up : tie.Need-slice-aggregate-read-up
-slice-aggregate-read-up c = search needs
-
-read-up-requires : tie.Need-read-up-requires
-read-up-requires c κs = search needs
-
-slice-aggregate-fail-2 : tie.Need-slice-aggregate-fail-2
-slice-aggregate-fail-2 c = search needs
-
-fail-requires-2 : tie.Need-fail-requires-2
-fail-requires-2 c κs = search needs
-
 returns-2 : tie.Need-returns-2
 returns-2 c = search needs
-
-open-overwrite-requires : tie.Need-open-overwrite-requires
-open-overwrite-requires c κs = search needs
-
-slice-aggregate-fail-3 : tie.Need-slice-aggregate-fail-3
-slice-aggregate-fail-3 c = search needs
-
-fail-requires-3 : tie.Need-fail-requires-3
-fail-requires-3 c κs = search needs
-
-returns-3 : tie.Need-returns-3
-returns-3 c = search needs
 
 array-share-prefix-buf : tie.Need-array-share-prefix-buf
 array-share-prefix-buf c = search needs
@@ -69,14 +51,14 @@ slice-aggregate-play-into c = search needs
 play-into-requires : tie.Need-play-into-requires
 play-into-requires c κs =
     let run = c .before .before .before .before .started in
-    let read = c .before .before .before .before .before .before .before .before .before .before .before .read-up in
-    let room = c .before .before .before .before .before .before .before .before .before .before .before .before .before .before .before in
+    let read = c .before .before .before .before .before .before .before .before .before .before .before .before in
+    let room = read .before .before in
     let start = room .before .before .before .before .before .before .before .before in
     let given = start .args in
     let refused : State → Type 0 = λ (s : State). worldRefusal (given .device) (worldOf s (given .cells .now) (given .identification .now) (given .latch .now)) ≡ 0 in (
       subst refused (sym (run .ensures .0)) (start .pre),
-      omega (arith, run .ensures .1, read .ensures .0),
-      omega (arith, c .before .before .before .before .before .before .before .before .before .before .buf2 .given, room .large-buffer .ensures),
+      omega (arith, run .ensures .1, read .begin .ensures .0),
+      omega (arith, c .before .before .before .before .before .before .before .before .before .before .before .buf2 .given, room .large-buffer .ensures),
     )
 
 replace-requires : tie.Need-replace-requires
@@ -85,8 +67,9 @@ replace-requires c κs = search needs
 tell-requires : tie.Need-tell-requires
 tell-requires c κs =
     let played = c .before .before .before .before .before .before .before .before .before .before .before in
-    let room = played .before .before .before .before .before .before .before .before .before .before .before .before .before .before .before .before in
-    fine-status (room .before .before .before .before .before .before .before .before .args .device) _ (played .play-into .ensures)
+    let room = played .before .before .before .before .before .before .before .before .before .before .before .before .before .before .before in
+    let start = room .before .before .before .before .before .before .before .before in
+    fine-status (start .args .device) _ (played .play-into .ensures)
 
 same-length : tie.Need-same-length
 same-length c = search needs
@@ -97,8 +80,8 @@ same-length-2 c = search needs
 same-length-3 : tie.Need-same-length-3
 same-length-3 c = search needs
 
-returns-4 : tie.Need-returns-4
-returns-4 c = search needs
+returns-3 : tie.Need-returns-3
+returns-3 c = search needs
 
 same-length-4 : tie.Need-same-length-4
 same-length-4 c = search needs
@@ -109,27 +92,21 @@ same-length-5 c = search needs
 same-length-6 : tie.Need-same-length-6
 same-length-6 c = search needs
 
-returns-5 : tie.Need-returns-5
-returns-5 c = search needs
+returns-4 : tie.Need-returns-4
+returns-4 c = search needs
 
 pub play-loaded-spec : {M : Type 1} → statement M
 play-loaded-spec =
     tie.close
     (tie.spec
     large-buffer-requires
-    open-read-requires
+    slice-aggregate-begin
+    begin-requires
+    returns
+    open-overwrite-requires
     slice-aggregate-fail
     fail-requires
-    returns
-    slice-aggregate-read-up
-    read-up-requires
-    slice-aggregate-fail-2
-    fail-requires-2
     returns-2
-    open-overwrite-requires
-    slice-aggregate-fail-3
-    fail-requires-3
-    returns-3
     array-share-prefix-buf
     slice-aggregate-tell-kind-16
     tell-kind-16-requires
@@ -141,8 +118,8 @@ play-loaded-spec =
     same-length
     same-length-2
     same-length-3
-    returns-4
+    returns-3
     same-length-4
     same-length-5
     same-length-6
-    returns-5)
+    returns-4)
