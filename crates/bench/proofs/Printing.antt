@@ -6,7 +6,7 @@ use mathlib.Core.List.{List, _++_}
 use native.Mathlib.Omega.{arith}
 use lib.ListN.{length, getD, take, drop, replicate, length-append}
 use lib.Dec.{eqb, leb, ltb, lit≤}
-use lib.Seq.{take-append-le, length-take-le}
+use lib.Seq.{take-append-le}
 use borrow.Author.Tests.{ne-eqb, le-leb, lt-leb, lt-ltb, le-ltb, leb-true, ltb-false, not-false}
 use Rattle.rules.specs.World.{World}
 use Rattle.rules.specs.declared.Row.{Row}
@@ -48,41 +48,46 @@ module _ (input : List ℕ) where
           unfolding firstRecord
           first-body h = rw (le-ltb 32_768 (length input) a, le-ltb (length input) 4 b, ← ek, c, ← es, d, lt-ltb (length input) 5 h)
 
-          module _ (e : 5 ≤ length input) where
-            pub first-below : getD input 4 0 < 1 → 1 ≡ firstRecord input .number
-            unfolding firstRecord
-            first-below h = rw (le-ltb 32_768 (length input) a, le-ltb (length input) 4 b, ← ek, c, ← es, d, le-ltb (length input) 5 e, lt-leb 1 (getD input 4 0) h)
+-- What is known of a first record that is there and of its kind.
+pub record Headed (input : List ℕ) : Type 0 where
+  pub fits : length input ≤ 32_768
+  pub head : 4 ≤ length input
+  pub kind : two input 2 ≡ 16
+  pub size : two input 0 ≡ 3
+  pub body : 5 ≤ length input
 
-            module _ (f : 1 ≤ getD input 4 0) where
-              pub first-above : 2 < getD input 4 0 → 1 ≡ firstRecord input .number
-              unfolding firstRecord
-              first-above h =
-                  rw (
-                    le-ltb 32_768 (length input) a,
-                    le-ltb (length input) 4 b,
-                    ← ek,
-                    c,
-                    ← es,
-                    d,
-                    le-ltb (length input) 5 e,
-                    le-leb 1 (getD input 4 0) f,
-                    lt-leb (getD input 4 0) 2 h,
-                  )
+module _ {input : List ℕ} (k : Headed input) where
+  pub first-below : getD input 4 0 < 1 → 1 ≡ firstRecord input .number
+  unfolding firstRecord
+  first-below h =
+      rw (le-ltb 32_768 (length input) (k .fits), le-ltb (length input) 4 (k .head), k .kind, k .size, le-ltb (length input) 5 (k .body), lt-leb 1 (getD input 4 0) h)
 
-              pub first-good : getD input 4 0 ≤ 2 → 0 ≡ firstRecord input .number
-              unfolding firstRecord
-              first-good h =
-                  rw (
-                    le-ltb 32_768 (length input) a,
-                    le-ltb (length input) 4 b,
-                    ← ek,
-                    c,
-                    ← es,
-                    d,
-                    le-ltb (length input) 5 e,
-                    le-leb 1 (getD input 4 0) f,
-                    le-leb (getD input 4 0) 2 h,
-                  )
+  module _ (a : 1 ≤ getD input 4 0) where
+    pub first-above : 2 < getD input 4 0 → 1 ≡ firstRecord input .number
+    unfolding firstRecord
+    first-above h =
+        rw (
+          le-ltb 32_768 (length input) (k .fits),
+          le-ltb (length input) 4 (k .head),
+          k .kind,
+          k .size,
+          le-ltb (length input) 5 (k .body),
+          le-leb 1 (getD input 4 0) a,
+          lt-leb (getD input 4 0) 2 h,
+        )
+
+    pub first-good : getD input 4 0 ≤ 2 → 0 ≡ firstRecord input .number
+    unfolding firstRecord
+    first-good h =
+        rw (
+          le-ltb 32_768 (length input) (k .fits),
+          le-ltb (length input) 4 (k .head),
+          k .kind,
+          k .size,
+          le-ltb (length input) 5 (k .body),
+          le-leb 1 (getD input 4 0) a,
+          le-leb (getD input 4 0) 2 h,
+        )
 
 -- What is known where it is not refused.
 pub record Named (input : List ℕ) : Type 0 where
@@ -130,18 +135,6 @@ room zero e a b = absurd (omega arith)
 room (suc zero) e a b = rw e (lit≤ tt, lit≤ tt)
 room (suc (suc zero)) e a b = rw e (lit≤ tt, lit≤ tt)
 room (suc (suc (suc d))) e a b = absurd (omega arith)
-
--- So the device's part of each lent buffer is as long as it has to be.
-pub parts : (device : ℕ) {row : Row} → row ≡ rowOf device → 1 ≤ device → device ≤ 2 → (cells identification latch : List ℕ)
-    → (length cells ≡ 16_384) × (length identification ≡ 64) × (length latch ≡ 128)
-    → (length (take (row .cells) cells) ≡ row .cells) × (length (take (row .page) identification) ≡ row .page)
-    × (length (take (row .page + row .page) latch) ≡ row .page + row .page)
-parts device {row} e a b cells identification latch lent =
-    let least = room device e a b in (
-      length-take-le (row .cells) cells (omega (arith, least .0, lent .0)),
-      length-take-le (row .page) identification (omega (arith, least .1, lent .1)),
-      length-take-le (row .page + row .page) latch (omega (arith, least .1, lent .2)),
-    )
 
 -- A run of the bench: how many records it can have done, and that its state's status is a byte.
 module _ (device : ℕ) (trace : List ℕ) {p : Progress} (a : 1 ≤ device) (b : device ≤ 2) (e : p ≡ benchRun device trace) where

@@ -5,10 +5,16 @@ use native.Mathlib.Omega.{arith}
 use lib.ListN.{length, drop, length-drop}
 use lib.Seq.{take-all, length-take-le}
 use Rattle.text.proofs.Putting.{whole}
-use Rattle.bench.proofs.Printing.{named, text-refused, text-run}
+use Rattle.bench.proofs.Printing.{Named, named, text-refused, text-run}
 use borrow.Author.Needs.{needs}
 use Rattle.bench.proofs.program.bench_text.Statement.{statement}
 use Rattle.bench.proofs.program.bench_text.Tie as tie
+
+-- The input's first record names a device, from where it is not refused.
+taken : (at : tie.Else1) → Named (at .before .before .before .before .before .before .before .before .args .input .now)
+taken at =
+    let start = at .before .before .before .before .before .before .before .before in
+    named (start .args .input .now) (sym (at .before .first-refused .ensures) ∙ at .if1 .left)
 
 first-refused-requires : tie.Need-first-refused-requires
 first-refused-requires c κs = search needs
@@ -30,19 +36,13 @@ returns c =
     (text .0, text .1 ∙ text-refused (start .args .input .now) (refused .before .first-refused .ensures) (refused .if1 .taken))
 
 shared-slice-read-device : tie.Need-shared-slice-read-device
-shared-slice-read-device c =
-    let start = c .before .before .before .before .before .before .before .before .before in
-    omega (arith, named (start .args .input .now) (sym (c .before .before .first-refused .ensures) ∙ c .before .if1 .left) .long)
+shared-slice-read-device c = omega (arith, taken (c .before) .long)
 
 sub-put-trace : tie.Need-sub-put-trace
-sub-put-trace c =
-    let start = c .before .before .before .before .before .before .before .before .before in
-    named (start .args .input .now) (sym (c .before .before .first-refused .ensures) ∙ c .before .if1 .left) .long
+sub-put-trace c = taken (c .before) .long
 
 part-put-trace-start : tie.Need-part-put-trace-start
-part-put-trace-start c =
-    let start = c .before .before .before .before .before .before .before .before .before in
-    omega (arith, named (start .args .input .now) (sym (c .before .before .first-refused .ensures) ∙ c .before .if1 .left) .long)
+part-put-trace-start c = omega (arith, taken (c .before) .long)
 
 part-put-trace-end : tie.Need-part-put-trace-end
 part-put-trace-end c = search needs
@@ -52,7 +52,7 @@ put-trace-requires c κs =
     let good = c .before .before .before .before .before .before .before in
     let start = good .before .before .before .before .before .before .before .before in
     let input = start .args .input .now in
-    let n = named input (sym (good .before .first-refused .ensures) ∙ good .if1 .left) in
+    let n = taken good in
     let rest = length-take-le (length input - 5) (drop 5 input) (omega (arith, length-drop 5 input)) in
     ((n .least, n .most, omega (arith, n .fits, n .long, length-drop 5 input, rest)), (start .pre .0, start .pre .1))
 

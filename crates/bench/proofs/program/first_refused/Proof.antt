@@ -1,9 +1,23 @@
 -- `bench::program::first_refused` meets its contract. The tests on the length and the device are handed to `omega`, so that their meaning counts and not their spelling.
+use mathlib.Core.Path.{sym, _∙_}
 use native.Mathlib.Omega.{arith}
-use Rattle.bench.proofs.Printing.{first-long, first-head, first-kind, first-length, first-body, first-below, first-above, first-good}
+use Rattle.bench.proofs.Printing.{first-long, first-head, first-kind, first-length, first-body, Headed, first-below, first-above, first-good}
 use borrow.Author.Needs.{needs}
 use Rattle.bench.proofs.program.first_refused.Statement.{statement}
 use Rattle.bench.proofs.program.first_refused.Tie as tie
+
+-- The first record is there and of its kind, from where the tests of both are past.
+headed : (at : tie.Else5) → Headed (at .before .before .before .before .before .before .before .before .args .input .now)
+headed at =
+    let at-size = at .before .before in
+    let at-kind = at-size .before .before in
+    record {
+      fits = omega (arith, at-kind .before .before .if1 .left);
+      head = at-kind .before .if2 .left;
+      kind = sym (at-kind .two-at .ensures) ∙ at-size .before .if3 .left;
+      size = sym (at-size .two-at2 .ensures) ∙ at .before .if4 .left;
+      body = at .if5 .left;
+    }
 
 returns : tie.Need-returns
 returns c = first-long (c .before .before .args .input .now) (omega (arith, c .if1 .taken))
@@ -25,58 +39,32 @@ two-at-requires-2 c κs = search needs
 
 returns-4 : tie.Need-returns-4
 returns-4 c =
-    let headed = c .before .before .before .before in
-    let fits = headed .before in
+    let head = c .before .before .before .before in
+    let fits = head .before in
     let start = fits .before .before in
-    first-length (start .args .input .now) (omega (arith, fits .if1 .left)) (headed .if2 .left) (c .before .before .before .two-at .ensures)
+    first-length (start .args .input .now) (omega (arith, fits .if1 .left)) (head .if2 .left) (c .before .before .before .two-at .ensures)
     (c .before .before .if3 .left) (c .before .two-at2 .ensures) (c .if4 .taken)
 
 returns-5 : tie.Need-returns-5
 returns-5 c =
     let at-kind = c .before .before .before .before in
-    let headed = at-kind .before in
-    let fits = headed .before in
+    let head = at-kind .before in
+    let fits = head .before in
     let start = fits .before .before in
-    first-body (start .args .input .now) (omega (arith, fits .if1 .left)) (headed .if2 .left) (at-kind .two-at .ensures) (c .before .before .before .if3 .left)
+    first-body (start .args .input .now) (omega (arith, fits .if1 .left)) (head .if2 .left) (at-kind .two-at .ensures) (c .before .before .before .if3 .left)
     (c .before .before .two-at2 .ensures) (c .before .if4 .left) (c .if5 .taken)
 
 shared-slice-read-device : tie.Need-shared-slice-read-device
 shared-slice-read-device c = search needs
 
 returns-6 : tie.Need-returns-6
-returns-6 c =
-    let at-size = c .before .before .before .before in
-    let known = at-size .before in
-    let at-kind = known .before in
-    let headed = at-kind .before in
-    let fits = headed .before in
-    let start = fits .before .before in
-    first-below (start .args .input .now) (omega (arith, fits .if1 .left)) (headed .if2 .left) (at-kind .two-at .ensures) (known .if3 .left)
-    (at-size .two-at2 .ensures) (c .before .before .before .if4 .left) (c .before .before .if5 .left) (omega (arith, c .if6 .taken))
+returns-6 c = first-below (headed (c .before .before)) (omega (arith, c .if6 .taken))
 
 returns-7 : tie.Need-returns-7
-returns-7 c =
-    let sized = c .before .before .before .before in
-    let at-size = sized .before in
-    let known = at-size .before in
-    let at-kind = known .before in
-    let headed = at-kind .before in
-    let fits = headed .before in
-    let start = fits .before .before in
-    first-above (start .args .input .now) (omega (arith, fits .if1 .left)) (headed .if2 .left) (at-kind .two-at .ensures) (known .if3 .left)
-    (at-size .two-at2 .ensures) (sized .if4 .left) (c .before .before .before .if5 .left) (omega (arith, c .before .if6 .left)) (omega (arith, c .if7 .taken))
+returns-7 c = first-above (headed (c .before .before .before)) (omega (arith, c .before .if6 .left)) (omega (arith, c .if7 .taken))
 
 returns-8 : tie.Need-returns-8
-returns-8 c =
-    let sized = c .before .before .before .before in
-    let at-size = sized .before in
-    let known = at-size .before in
-    let at-kind = known .before in
-    let headed = at-kind .before in
-    let fits = headed .before in
-    let start = fits .before .before in
-    first-good (start .args .input .now) (omega (arith, fits .if1 .left)) (headed .if2 .left) (at-kind .two-at .ensures) (known .if3 .left)
-    (at-size .two-at2 .ensures) (sized .if4 .left) (c .before .before .before .if5 .left) (omega (arith, c .before .if6 .left)) (omega (arith, c .if7 .left))
+returns-8 c = first-good (headed (c .before .before .before)) (omega (arith, c .before .if6 .left)) (omega (arith, c .if7 .left))
 
 pub first-refused-spec : {M : Type 1} → statement M
 first-refused-spec =

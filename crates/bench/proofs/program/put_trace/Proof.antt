@@ -1,59 +1,62 @@
 -- `bench::program::put_trace` meets its contract.
 use native.Mathlib.Omega.{arith}
-use mathlib.Core.Path.{sym}
+use Prim.Native.Nat.{_+_, _≤_}
+use mathlib.Core.Path.{_≡_, sym}
+use lib.ListN.{length, take}
 use lib.Seq.{length-take-le}
 use Rattle.m95.proofs.Calling.{a-device, lent-room}
-use Rattle.bench.proofs.Printing.{room, parts, ran-few, ran-room, ran-status, ran-text}
+use Rattle.bench.proofs.Printing.{room, ran-few, ran-room, ran-status, ran-text}
 use borrow.Author.Needs.{needs}
 use Rattle.bench.proofs.program.put_trace.Statement.{statement}
 use Rattle.bench.proofs.program.put_trace.Tie as tie
+
+-- What the device needs of the room, and that its part of each buffer is so long, from where its row is known.
+least : (at : tie.After-row-of) → (at .row-of .result .cells ≤ 16_384) × (at .row-of .result .page ≤ 64)
+least at =
+    let start = at .before .before .before .before .before .before .before in
+    room (start .args .device) (at .row-of .ensures) (start .pre .0 .0) (start .pre .0 .1)
+
+long : (at : tie.After-row-of)
+    → let row = at .row-of .result in
+    let given = at .before .before .before .before .before .before .before .args in
+    (length (take (row .cells) (given .cells .now)) ≡ row .cells) × (length (take (row .page) (given .identification .now)) ≡ row .page)
+    × (length (take (row .page + row .page) (given .latch .now)) ≡ row .page + row .page)
+long at =
+    let lent = at .before .before .before .before .before .before .before .pre .1 .0 in (
+      length-take-le _ _ (omega (arith, least at .0, lent .0)),
+      length-take-le _ _ (omega (arith, least at .1, lent .1)),
+      length-take-le _ _ (omega (arith, least at .1, lent .2)),
+    )
 
 row-of-requires : tie.Need-row-of-requires
 row-of-requires c κs = search needs
 
 add-both : tie.Need-add-both
-add-both c =
-    let start = c .before .before .before .before .before .before .before in
-    omega (arith, room (start .args .device) (c .row-of .ensures) (start .pre .0 .0) (start .pre .0 .1) .1)
+add-both c = omega (arith, least c .1)
 
 slice-relend-prefix-bench-run : tie.Need-slice-relend-prefix-bench-run
 slice-relend-prefix-bench-run c =
     let start = c .before .before .before .before .before .before .before in
-    omega (arith, room (start .args .device) (c .row-of .ensures) (start .pre .0 .0) (start .pre .0 .1) .0, start .pre .1 .0 .0)
+    omega (arith, least c .0, start .pre .1 .0 .0)
 
 slice-aggregate-bench-run : tie.Need-slice-aggregate-bench-run
-slice-aggregate-bench-run c =
-    let start = c .before .before .before .before .before .before .before .before in
-    let given = start .args in
-    sym
-    (parts (given .device) (c .before .row-of .ensures) (start .pre .0 .0) (start .pre .0 .1) (given .cells .now) (given .identification .now) (given .latch .now)
-    (start .pre .1 .0) .0)
+slice-aggregate-bench-run c = sym (long (c .before) .0)
 
 slice-relend-prefix-bench-run-2 : tie.Need-slice-relend-prefix-bench-run-2
 slice-relend-prefix-bench-run-2 c =
     let start = c .before .before .before .before .before .before .before .before in
-    omega (arith, room (start .args .device) (c .before .row-of .ensures) (start .pre .0 .0) (start .pre .0 .1) .1, start .pre .1 .0 .1)
+    omega (arith, least (c .before) .1, start .pre .1 .0 .1)
 
 slice-aggregate-bench-run-2 : tie.Need-slice-aggregate-bench-run-2
-slice-aggregate-bench-run-2 c =
-    let start = c .before .before .before .before .before .before .before .before .before in
-    let given = start .args in
-    sym
-    (parts (given .device) (c .before .before .row-of .ensures) (start .pre .0 .0) (start .pre .0 .1) (given .cells .now) (given .identification .now) (given .latch .now)
-    (start .pre .1 .0) .1)
+slice-aggregate-bench-run-2 c = sym (long (c .before .before) .1)
 
 slice-relend-prefix-bench-run-3 : tie.Need-slice-relend-prefix-bench-run-3
 slice-relend-prefix-bench-run-3 c =
     let start = c .before .before .before .before .before .before .before .before .before in
-    omega (arith, room (start .args .device) (c .before .before .row-of .ensures) (start .pre .0 .0) (start .pre .0 .1) .1, start .pre .1 .0 .2)
+    omega (arith, least (c .before .before) .1, start .pre .1 .0 .2)
 
 slice-aggregate-bench-run-3 : tie.Need-slice-aggregate-bench-run-3
-slice-aggregate-bench-run-3 c =
-    let start = c .before .before .before .before .before .before .before .before .before .before in
-    let given = start .args in
-    sym
-    (parts (given .device) (c .before .before .before .row-of .ensures) (start .pre .0 .0) (start .pre .0 .1) (given .cells .now) (given .identification .now) (given .latch .now)
-    (start .pre .1 .0) .2)
+slice-aggregate-bench-run-3 c = sym (long (c .before .before .before) .2)
 
 slice-relend-prefix-bench-run-4 : tie.Need-slice-relend-prefix-bench-run-4
 slice-relend-prefix-bench-run-4 c = search needs
@@ -67,12 +70,10 @@ bench-run-requires : tie.Need-bench-run-requires
 bench-run-requires c κs =
     let at-row-of = c .before .before .before .before in
     let start = at-row-of .before .before .before .before .before .before .before in
-    let given = start .args in
-    let row = at-row-of .row-of .ensures in
-    let least = start .pre .0 .0 in
-    let most = start .pre .0 .1 in
-    let long = parts (given .device) row least most (given .cells .now) (given .identification .now) (given .latch .now) (start .pre .1 .0) in (
-      lent-room (given .device) (at-row-of .row-of .result) row (a-device (given .device) least (omega (arith, most))) _ _ _ (long .0) (long .1) (long .2),
+    let device = start .args .device in
+    let known = a-device device (start .pre .0 .0) (omega (arith, start .pre .0 .1)) in
+    let fits = long at-row-of in (
+      lent-room device (at-row-of .row-of .result) (at-row-of .row-of .ensures) known _ _ _ (fits .0) (fits .1) (fits .2),
       length-take-le _ _ (omega (arith, start .pre .0 .2, start .pre .1 .1 .0)),
     )
 
