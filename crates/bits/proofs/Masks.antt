@@ -1,6 +1,6 @@
 -- What masks and shifts are as numbers: over the width, or over all bytes by a computed test.
 use Prim.Native.Nat.{ℕ, zero, suc, _+_, _-_, _*_, _/_, _%_, _^_, _≤_, _<_}
-use mathlib.Core.Path.{_≡_, sym, ap, subst}
+use mathlib.Core.Path.{_≡_, refl, sym, ap, subst}
 use mathlib.Core.Bool.{Bool, true, false, not, _&&_, _||_}
 use mathlib.Core.Logic.{⊎-elim}
 use native.Mathlib.Nat.{mod-eq-of-lt, eq-or-lt-of-le, le-of-suc-le-suc, not-suc-le-zero}
@@ -36,6 +36,11 @@ passes (suc n) p t x h =
     ⊎-elim (λ e. subst (λ (k : ℕ). T (p k)) (sym e) (and-left (p n) (below n p) t))
     (λ l. passes n p (and-right (p n) (below n p) t) x l)
     (eq-or-lt-of-le (le-of-suc-le-suc h))
+
+-- A flag as a byte.
+pub byte-number : (b : Bool) → boolByte b ≡ number b
+byte-number true = refl
+byte-number false = refl
 
 -- A bit at the low end.
 pub low-bit : (v : ℕ) (d : Bool) → v < 128 → bitOr (v * 2 % 256) (boolByte d) ≡ v * 2 + number d

@@ -29,10 +29,6 @@ pub flag-small : (b : Bool) → boolByte b ≤ 1
 flag-small true = omega arith
 flag-small false = omega arith
 
-pub flag-number : (b : Bool) → boolByte b ≡ number b
-flag-number true = refl
-flag-number false = refl
-
 -- The world.
 module _ (device : ℕ) (w : World) (n : ℕ) (en : n ≡ lentRefusal device (w .cells) (w .identification) (w .latch)) where
   pub world-lent : (n ≡ 0 → ⊥) → n ≡ worldRefusal device w

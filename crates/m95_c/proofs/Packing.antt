@@ -19,7 +19,7 @@ use Rattle.rules.specs.Sound.{areMarks}
 use Rattle.rules.specs.Trace.{answerByte}
 use Rattle.rules.proofs.Choice.{and-left}
 use Rattle.bits.proofs.Masks.{within}
-use Rattle.m95.proofs.Calling.{flag-number}
+use Rattle.bits.proofs.Masks.{byte-number}
 use Rattle.m95_c.specs.StateBytes.{kinds, isState, stateAt, noState, stateOf, byteOf, fourBytes, instructionNumber, kindNumber, numberBytes, flagBytes, otherBytes, bytesOf}
 
 -- A number from k on that is not k.
@@ -88,17 +88,17 @@ cast s =
 cast-flags : (s : State) → cast s ≡ flagBytes s
 cast-flags s =
     rw (
-      flag-number (s .pins .c),
-      flag-number (s .pins .d),
-      flag-number (s .pins .s),
-      flag-number (s .pins .hold),
-      flag-number (s .pins .w),
-      flag-number (s .selection .selected),
-      flag-number (s .selection .held),
-      flag-number (s .selection .seen),
-      flag-number (s .command .away),
-      flag-number (s .registers .wel),
-      flag-number (s .registers .locked),
+      byte-number (s .pins .c),
+      byte-number (s .pins .d),
+      byte-number (s .pins .s),
+      byte-number (s .pins .hold),
+      byte-number (s .pins .w),
+      byte-number (s .selection .selected),
+      byte-number (s .selection .held),
+      byte-number (s .selection .seen),
+      byte-number (s .command .away),
+      byte-number (s .registers .wel),
+      byte-number (s .registers .locked),
     )
 
 pub flags-put : (s : State) (room : List ℕ) {after : List ℕ} → length room ≡ 11 → after ≡ take 11 (cast s) ++ drop 11 room → after ≡ flagBytes s

@@ -1,6 +1,6 @@
 -- What the bytes of a state and the places of a page are worth: what was put is read back (`read-back`), bytes that are no state get 5
 -- (`no-state-refused`), the place of a page is the page that the library shows (`page-shown`).
-use Prim.Native.Nat.{ℕ, zero, suc, _+_, _-_, _*_, _/_, _%_, _^_, _≤_, _<_}
+use Prim.Native.Nat.{ℕ, _+_, _-_, _*_, _/_, _%_, _^_, _<_}
 use mathlib.Core.Path.{_≡_, refl}
 use mathlib.Core.Bool.{Bool, true, false}
 use mathlib.Core.List.{List, []}
@@ -13,22 +13,19 @@ use Rattle.rules.specs.declared.Kind.{Kind}
 use Rattle.rules.specs.declared.Level.{Level}
 use Rattle.rules.specs.declared.State.{State}
 use Rattle.rules.specs.World.{if_then_else_, World, number}
-use Rattle.rules.specs.Device.{m95040, table, rowOf}
+use Rattle.rules.specs.Device.{rowOf}
 use Rattle.rules.specs.Sound.{isSound, clauses}
 use Rattle.rules.specs.Instruction.{changes}
 use Rattle.rules.specs.Trace.{answerByte}
 use Rattle.rules.specs.Call.{lentRefusal, worldRefusal, cellPageOutcome}
 use Rattle.rules.proofs.Widths.{of-device}
+use Rattle.rules.proofs.Choice.{number-back}
 use Rattle.bits.proofs.Masks.{cells-fit}
 use Rattle.m95.proofs.Calling.{fine}
 use Rattle.m95_c.specs.StateBytes.{instructions, levels, kinds, isState, stateAt, stateOf, byteOf, instructionNumber, kindNumber, bytesOf}
 use Rattle.m95_c.specs.Left.{deviceOf, Buffers, buffersRefusal, placedAs, cellPageLeft}
 
 -- Each part is read back.
-flag-back : (b : Bool) → eqb (number b) 1 ≡ b
-flag-back true = refl
-flag-back false = refl
-
 flag-is : (b : Bool) → leb (number b) 1 ≡ true
 flag-is true = refl
 flag-is false = refl
@@ -100,33 +97,23 @@ state-back s a b c =
       four-back (s .place .address) a,
       four-back (s .place .start) b,
       four-back (s .place .left) c,
-      flag-back (s .pins .c),
-      flag-back (s .pins .d),
-      flag-back (s .pins .s),
-      flag-back (s .pins .hold),
-      flag-back (s .pins .w),
-      flag-back (s .selection .selected),
-      flag-back (s .selection .held),
-      flag-back (s .selection .seen),
-      flag-back (s .command .away),
-      flag-back (s .registers .wel),
-      flag-back (s .registers .locked),
+      number-back (s .pins .c),
+      number-back (s .pins .d),
+      number-back (s .pins .s),
+      number-back (s .pins .hold),
+      number-back (s .pins .w),
+      number-back (s .selection .selected),
+      number-back (s .selection .held),
+      number-back (s .selection .seen),
+      number-back (s .command .away),
+      number-back (s .registers .wel),
+      number-back (s .registers .locked),
       instruction-back (s .command .instruction) .1,
       level-back (s .output .q) .1,
       kind-back (s .cycle .kind) .1,
     )
 
--- The numbers of a device that is not refused are small.
-time-small : (n : ℕ) → rowOf n .time ≤ 5000
-time-small n = entry (n - 1)
-  where
-    entry : (k : ℕ) → getD table k m95040 .time ≤ 5000
-    entry zero = omega arith
-    entry (suc zero) = omega arith
-    entry (suc (suc zero)) = omega arith
-    entry (suc (suc (suc zero))) = omega arith
-    entry (suc (suc (suc (suc k)))) = omega arith
-
+-- A state that was put is the state that is read: the numbers of a device that is not refused fit their bytes.
 pub read-back : (device : ℕ) (w : World) → worldRefusal device w ≡ 0 → stateOf (bytesOf (w .state)) ≡ w .state
 unfolding stateOf
 read-back device w z =
@@ -136,7 +123,7 @@ read-back device w z =
     (state-back (w .state) (omega (arith, sound .inside, fits)) (omega (arith, sound .cycle .inside, fits)) (left (changes (w .state .cycle .kind) .runs) refl))
   where
     left : (t : Bool) → changes (w .state .cycle .kind) .runs ≡ t → w .state .place .left < 2 ^ 32
-    left true e = omega (arith, fine device w z .0 .unsettled .cycle .runs e .1, time-small device)
+    left true e = omega (arith, fine device w z .0 .unsettled .cycle .runs e .1, of-device device .soon)
     left false e = omega (arith, fine device w z .0 .unsettled .cycle .rests e)
 
 pub no-state-refused : (device : ℕ) (b : Buffers) → isState (b .state) ≡ false

@@ -1,5 +1,5 @@
 -- A chip's file, one law for each way through the rule; the bytes that are kept; and what holds from piece to piece.
-use Prim.Native.Nat.{ℕ, zero, suc, _+_, _-_, _^_, _≤_, _<_}
+use Prim.Native.Nat.{ℕ, zero, suc, _+_, _^_, _≤_, _<_}
 use mathlib.Core.Path.{_≡_, refl, sym, ap, _∙_, subst}
 use mathlib.Core.Bool.{Bool, true, false, not}
 use mathlib.Core.List.{List, [], _∷_, _++_}
@@ -7,13 +7,12 @@ use native.Mathlib.Numerals.{add-one}
 use native.Mathlib.Omega.{arith}
 use lib.ListN.{length, getD, set, take, drop, length-drop, length-append}
 use lib.Seq.{length-take-le, getD-append-add, getD-drop, drop-cons, take-suc, set-at, take-at, append-snoc}
-use lib.Dec.{lit≤}
 use borrow.Rule.Slice.PartMut.{postOf, putMid}
 use borrow.Author.Tests.{eq-eqb, ne-eqb}
 use Rattle.rules.specs.declared.Row.{Row}
 use Rattle.rules.specs.declared.Stored.{Stored}
 use Rattle.rules.specs.World.{World}
-use Rattle.rules.specs.Device.{Widths, m95040, table, isDevice, rowOf}
+use Rattle.rules.specs.Device.{Widths, isDevice, rowOf}
 use Rattle.rules.specs.Trace.{Progress}
 use Rattle.rules.specs.Call.{lentRefusal, worldRefusal, storedAs, runOutcome}
 use Rattle.rules.proofs.Program.{world-taken}
@@ -107,14 +106,3 @@ module _ (device : ℕ) (w : World) (t a : List ℕ) (limit : ℕ) (p : Progress
 pub left-fits : (buf part : List ℕ) (c k m : ℕ) → c ≤ length buf → m ≤ length part → length (putMid c k buf part) ≡ length buf → c + m ≤ length buf
 left-fits buf part c k m h l e =
     omega (arith, h, l, e, length-take-le c buf h, length-append (take c buf) (part ++ postOf c k buf), length-append part (postOf c k buf))
-
--- What every device needs of the room.
-pub room : (device : ℕ) {row : Row} → row ≡ rowOf device → (row .cells ≤ 262_144) × (row .page ≤ 256)
-room device e = rw e (entry (device - 1))
-  where
-    entry : (i : ℕ) → (getD table i m95040 .cells ≤ 262_144) × (getD table i m95040 .page ≤ 256)
-    entry zero = (lit≤ tt, lit≤ tt)
-    entry (suc zero) = (lit≤ tt, lit≤ tt)
-    entry (suc (suc zero)) = (lit≤ tt, lit≤ tt)
-    entry (suc (suc (suc zero))) = (lit≤ tt, lit≤ tt)
-    entry (suc (suc (suc (suc i)))) = (lit≤ tt, lit≤ tt)

@@ -2,7 +2,8 @@
 use mathlib.Core.Path.{_≡_, refl, sym, _∙_}
 use mathlib.Core.Bool.{Bool, true, false, _&&_, _||_, true≢false}
 use mathlib.Core.List.{List, [], _∷_}
-use Rattle.rules.specs.World.{if_then_else_}
+use lib.Dec.{eqb}
+use Rattle.rules.specs.World.{if_then_else_, number}
 use Rattle.rules.specs.Sound.{all}
 
 -- A choice has a property if each side has it under its test.
@@ -84,3 +85,8 @@ each (b ∷ bs) e = (and-left b (all bs) e, each bs (and-right b (all bs) e))
 pub all-of : (bs : List Bool) → Hold bs → all bs ≡ true
 all-of [] e = refl
 all-of (b ∷ bs) e = and-both b (all bs) (e .0) (all-of bs (e .1))
+
+-- A bit as a number, read back.
+pub number-back : (b : Bool) → eqb (number b) 1 ≡ b
+number-back true = refl
+number-back false = refl

@@ -16,7 +16,7 @@ use Rattle.rules.specs.Sound.{Sound, Lent}
 use Rattle.rules.specs.Call.{worldRefusal, storedIn, poweredWith, Loaded, loadedAs, loadOutcome}
 use Rattle.rules.specs.Selections.{contents, sights}
 use Rattle.rules.specs.Loaded as spec
-use Rattle.rules.proofs.Choice.{if-elim, clash}
+use Rattle.rules.proofs.Choice.{if-elim, clash, number-back}
 use Rattle.rules.proofs.Incident.{prepared-sound}
 use Rattle.rules.proofs.Widths.{of-device}
 use Rattle.rules.proofs.Same.{Same, off, contents-same}
@@ -39,14 +39,10 @@ given-back device x =
     (λ _. if-elim P (ltb 1 (x .lock)) (λ _ e. absurd (omega arith))
     (λ e _. ap (λ (n : ℕ). record { status = x .status; lock = n }) (lock-back (x .lock) e))))
 
--- A lock as a number is 0 or 1, and the lock again.
+-- A lock as a number is 0 or 1.
 lock-small : (b : Bool) → ltb 1 (number b) ≡ false
 lock-small true = refl
 lock-small false = refl
-
-lock-again : (b : Bool) → eqb (number b) 1 ≡ b
-lock-again true = refl
-lock-again false = refl
 
 -- What loading took is stored as the device stores it, and the state is the one after power.
 pub load-taken : (device : ℕ) (x : Stored) → loadOutcome device x .number ≡ 0 → (storable (rowOf device) (x .status) ≡ x .status) × (loadOutcome device x .state ≡ poweredWith x)
@@ -134,7 +130,7 @@ module _ {row : Row} (v : Widths row) (w : World) (h : Sound row w) (l : Lent ro
       ap (λ (n : ℕ). rested n (w .state .pins) (w .state .cycle .kind) (r .locked)) (h .unsettled .cycle .rests idle-now)
       ∙ ap (λ (p : Pins). rested 0 p (w .state .cycle .kind) (r .locked)) rest
       ∙ ap (λ (k : Kind). rested 0 (preparedState .pins) k (r .locked)) none
-      ∙ ap (rested 0 (preparedState .pins) Kind.None) (sym (lock-again (r .locked)))
+      ∙ ap (rested 0 (preparedState .pins) Kind.None) (sym (number-back (r .locked)))
 
   from-loading : Same row loaded (rested 0 (preparedState .pins) Kind.None (eqb (number (w .state .registers .locked)) 1))
   from-loading =

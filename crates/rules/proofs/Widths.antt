@@ -67,19 +67,27 @@ widths row e =
       soon = ltb-true _ _ (address .1 .1 .1 .1 .0);
     }
 
--- A row read from a list of rows that pass, passes; so one more in the table asks for nothing here.
-read-wide : (rows : List Row) → all (map isWide rows) ≡ true → (i : ℕ) (other : Row) → isWide other ≡ true → isWide (getD rows i other) ≡ true
-read-wide [] e i other h = h
-read-wide (row ∷ rows) e zero other h = and-left (isWide row) (all (map isWide rows)) e
-read-wide (row ∷ rows) e (suc i) other h = read-wide rows (and-right (isWide row) (all (map isWide rows)) e) i other h
+-- What a test finds of every row of a list, it finds of the row that is read from it; so one more in the table asks for nothing here.
+read-row : (test : Row → Bool) (rows : List Row) → all (map test rows) ≡ true → (i : ℕ) (other : Row) → test other ≡ true → test (getD rows i other) ≡ true
+read-row test [] e i other h = h
+read-row test (row ∷ rows) e zero other h = and-left (test row) (all (map test rows)) e
+read-row test (row ∷ rows) e (suc i) other h = read-row test rows (and-right (test row) (all (map test rows)) e) i other h
 
 pub of-device : (n : ℕ) → Widths (rowOf n)
 unfolding isWide
-of-device n = widths (rowOf n) (read-wide table refl (n - 1) m95040 refl)
+of-device n = widths (rowOf n) (read-row isWide table refl (n - 1) m95040 refl)
 
 -- A row that was looked up.
 pub row-widths : (device : ℕ) (row : Row) → row ≡ rowOf device → Widths row
 row-widths device row e = subst Widths (sym e) (of-device device)
+
+-- No device has more cells than this, and programs lend so many.
+hasRoom : Row → Bool
+hasRoom row = leb (row .cells) 262_144
+
+pub room : (device : ℕ) {row : Row} → row ≡ rowOf device → (row .cells ≤ 262_144) × (row .page ≤ 256)
+unfolding hasRoom
+room device e = rw e (leb-true (rowOf device .cells) 262_144 (read-row hasRoom table refl (device - 1) m95040 refl), of-device device .pageMost)
 
 module _ {row : Row} (v : Widths row) where
   pub page-positive : 0 < row .page

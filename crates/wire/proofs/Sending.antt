@@ -1,12 +1,11 @@
 -- What C's fall does, one law for each way through the rules.
 use Prim.Native.Nat.{ℕ, _+_, _≤_, _<_}
-use mathlib.Core.Path.{_≡_, refl, sym, ap, _∙_}
+use mathlib.Core.Path.{_≡_, sym, ap, _∙_}
 use mathlib.Core.Bool.{Bool, true, false, not, _&&_}
 use mathlib.Core.List.{List}
 use native.Mathlib.Nat.{min-eq-left, min-eq-right}
 use native.Mathlib.Omega.{arith}
 use lib.Dec.{eqb}
-use mir.Val.{boolByte}
 use borrow.Author.Tests.{eq-eqb, ne-eqb, le-leb, lt-leb, leb-false}
 use Rattle.rules.specs.declared.Row.{Row}
 use Rattle.rules.specs.declared.Source.{Source}
@@ -14,7 +13,7 @@ use Rattle.rules.specs.declared.Going.{Going}
 use Rattle.rules.specs.declared.Level.{Level}
 use Rattle.rules.specs.declared.Output.{Output}
 use Rattle.rules.specs.declared.State.{State}
-use Rattle.rules.specs.World.{number, withSelection}
+use Rattle.rules.specs.World.{withSelection}
 use Rattle.rules.specs.Instruction.{commandBytes}
 use Rattle.tables.proofs.Looks.{arm}
 use Rattle.rules.specs.Send.{byteOf, going, sourceOf, isSending, shownAddress, outputOf, outputAfter, fallen}
@@ -66,10 +65,6 @@ module _ (row : Row) (s : State) (cells identification : List ℕ) (d : Bool) {s
 
 pub not-past : (row : Row) (a : ℕ) (t : Source) {g : Going} → g ≡ going row t a → g .past ≡ false → going row t a .past ≡ false
 not-past row a t eg h = ap (λ (x : Going). x .past) (sym eg) ∙ h
-
-pub byte-number : (b : Bool) → boolByte b ≡ number b
-byte-number true = refl
-byte-number false = refl
 
 -- Which arm a source is taken by.
 pub byte-by : (s : State) (cells identification : List ℕ) (a : ℕ) {t u : Source} {b : ℕ} → t ≡ u → b ≡ byteOf s cells identification u a

@@ -1,6 +1,7 @@
 -- `m95::status_byte` meets its contract.
 use native.Mathlib.Omega.{arith}
-use Rattle.m95.proofs.Calling.{flag-small, flag-number}
+use Rattle.bits.proofs.Masks.{byte-number}
+use Rattle.m95.proofs.Calling.{flag-small}
 use borrow.Author.Needs.{needs}
 use Rattle.m95.proofs.status_byte.Statement.{statement}
 use Rattle.m95.proofs.status_byte.Tie as tie
@@ -27,7 +28,7 @@ add-result-2 : tie.Need-add-result-2
 add-result-2 c = omega (arith, flag-small (c .before .before .before .args .s .registers .wel), flag-small (c .is-busy .result), c .before .before .struct-known .given)
 
 returns : tie.Need-returns
-returns c = rw (flag-number (c .before .before .before .args .s .registers .wel), flag-number (c .is-busy .result), c .is-busy .ensures)
+returns c = rw (byte-number (c .before .before .before .args .s .registers .wel), byte-number (c .is-busy .result), c .is-busy .ensures)
 
 pub status-byte-spec : {M : Type 1} → statement M
 status-byte-spec =

@@ -3,7 +3,7 @@ use native.Mathlib.Omega.{arith}
 use mathlib.Core.Path.{sym}
 use lib.Seq.{length-take-le}
 use Rattle.m95.proofs.Calling.{a-device, lent-room}
-use Rattle.player.proofs.Playing.{room}
+use Rattle.rules.proofs.Widths.{room}
 use borrow.Author.Needs.{needs}
 use Rattle.playthrough.proofs.run.play_device.Statement.{statement}
 use Rattle.playthrough.proofs.run.play_device.Tie as tie

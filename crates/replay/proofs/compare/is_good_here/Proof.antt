@@ -2,7 +2,7 @@
 use mathlib.Core.Path.{refl, sym}
 use native.Mathlib.Omega.{arith}
 use lib.Seq.{length-take-le}
-use Rattle.player.proofs.Playing.{room}
+use Rattle.rules.proofs.Widths.{room}
 use borrow.Author.Needs.{needs}
 use Rattle.replay.proofs.compare.is_good_here.Statement.{statement}
 use Rattle.replay.proofs.compare.is_good_here.Tie as tie

@@ -4,7 +4,8 @@ use mathlib.Core.Bool.{Bool}
 use Prim.Native.Nat.{_+_, _*_}
 use native.Mathlib.Omega.{arith}
 use mathlib.Core.Path.{refl, ap, _∙_}
-use Rattle.wire.proofs.Sending.{byte-by, byte-number, inside-page}
+use Rattle.bits.proofs.Masks.{byte-number}
+use Rattle.wire.proofs.Sending.{byte-by, inside-page}
 use borrow.Author.Needs.{needs}
 use Rattle.wire.proofs.send.byte_of.Statement.{statement}
 use Rattle.wire.proofs.send.byte_of.Tie as tie
