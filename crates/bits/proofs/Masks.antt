@@ -121,10 +121,6 @@ pub or-status : (row : Row) (x : ℕ) (wel busy : Bool) → x < 256 → storable
 unfolding status-test
 or-status row x wel busy h e = eqb→eq _ _ (or-else _ _ (eq-eqb _ _ e) (passes 256 (status-test (row .srwd) wel busy) (status-all (row .srwd) wel busy) x h))
 
--- The cells fit a machine word with room to spare.
-pub cells-fit : {row : Row} → Widths row → row .cells ≤ 2 ^ 24
-cells-fit v = rw (v .cells) (pow-mono (v .narrow))
-
 pub roll-eq : (row : Row) (a : ℕ) {p q : ℕ} → p ≡ a % row .page → q ≡ (p + 1) % row .page → a - p + q ≡ rolled row a
 unfolding rolled
 roll-eq row a e f = rw (f, e)

@@ -1,5 +1,5 @@
 -- What the lent buffers are refused with, and the outcome of preparing and of loading: one law for each way through the rules.
-use Prim.Native.Nat.{ℕ, _+_, _-_, _*_, _^_, _≤_, _<_}
+use Prim.Native.Nat.{ℕ, _+_, _-_, _*_, _≤_, _<_}
 use mathlib.Core.Path.{_≡_, sym, ap, _∙_}
 use mathlib.Core.Bool.{Bool, true, false, not}
 use mathlib.Core.List.{List, _++_}
@@ -11,7 +11,7 @@ use Rattle.rules.specs.declared.Row.{Row}
 use Rattle.rules.specs.declared.State.{State}
 use Rattle.rules.specs.declared.Stored.{Stored}
 use Rattle.rules.specs.World.{if_then_else_, worldOf, withStored}
-use Rattle.rules.specs.Device.{Widths, isDevice, rowOf, code, preparedState, prepared}
+use Rattle.rules.specs.Device.{isDevice, rowOf, code, preparedState, prepared}
 use Rattle.rules.specs.Judge.{storable}
 use Rattle.rules.specs.Sound.{Lent}
 use Rattle.rules.specs.Call.{lentRefusal, preparedAs, prepareOutcome, poweredWith, loadedAs, loadOutcome}
@@ -24,9 +24,6 @@ a-device device a b = rw (le-leb 1 device a, le-leb device 4 b)
 -- The lent buffers.
 pub page-at : (device : ℕ) (row : Row) → row ≡ rowOf device → rowOf device .page ≡ row .page
 page-at device row er = ap (λ (x : Row). x .page) (sym er)
-
-pub both-fit : {row : Row} → Widths row → row .page + row .page < 2 ^ 25
-both-fit v = omega (arith, v .pageMost)
 
 pub lent-wrong : (device : ℕ) (row : Row) (d : Bool) → row ≡ rowOf device → d ≡ isDevice device → (cells identification latch : List ℕ) (n : ℕ)
     → n ≡ (if not d then 1 else if not (eqb (length cells) (row .cells)) then 2

@@ -17,6 +17,7 @@ use Rattle.rules.specs.Event.{step, answer, refusal}
 use Rattle.rules.specs.Sound.{isSound, Sound, Lent}
 use Rattle.rules.specs.Trace.{answerByte, Progress, progressOf, run}
 use Rattle.rules.specs.Call.{lentRefusal, worldRefusal, repliedAs, eventOutcome, runOutcome}
+use Rattle.rules.proofs.Choice.{number-small}
 use Rattle.rules.proofs.Program.{world-facts}
 use Rattle.rules.proofs.Runs.{Course, course}
 use Rattle.rules.proofs.Widths.{of-device}
@@ -90,11 +91,9 @@ run-course device w t a limit z enough =
 
 -- The status of a sound state is a byte.
 pub status-small : (row : Row) (w : World) → Sound row w → statusByte (w .state) < 256
-status-small row w h = omega (arith, h .unsettled .stored, flag (row .srwd && bit (w .state .registers .status) 7), flag (w .state .registers .wel), flag (busy (w .state)))
-  where
-    flag : (b : Bool) → number b ≤ 1
-    flag true = omega arith
-    flag false = omega arith
+status-small row w h =
+    let s = w .state in
+    omega (arith, h .unsettled .stored, number-small (row .srwd && bit (s .registers .status) 7), number-small (s .registers .wel), number-small (busy s))
 
 pub fine-status : (device : ℕ) (w : World) → worldRefusal device w ≡ 0 → statusByte (w .state) < 256
 fine-status device w z = status-small (rowOf device) w (fine device w z .0)

@@ -20,7 +20,6 @@ use Rattle.rules.specs.Trace.{answerByte}
 use Rattle.rules.specs.Call.{lentRefusal, worldRefusal, cellPageOutcome}
 use Rattle.rules.proofs.Widths.{of-device}
 use Rattle.rules.proofs.Choice.{number-back}
-use Rattle.bits.proofs.Masks.{cells-fit}
 use Rattle.m95.proofs.Calling.{fine}
 use Rattle.m95_c.specs.StateBytes.{instructions, levels, kinds, isState, stateAt, stateOf, byteOf, instructionNumber, kindNumber, bytesOf}
 use Rattle.m95_c.specs.Left.{deviceOf, Buffers, buffersRefusal, placedAs, cellPageLeft}
@@ -118,7 +117,7 @@ pub read-back : (device : ℕ) (w : World) → worldRefusal device w ≡ 0 → s
 unfolding stateOf
 read-back device w z =
     let sound = fine device w z .0 .unsettled in
-    let fits = cells-fit (of-device device) in
+    let fits = of-device device .cellsMost in
     rw (is-state (w .state))
     (state-back (w .state) (omega (arith, sound .inside, fits)) (omega (arith, sound .cycle .inside, fits)) (left (changes (w .state .cycle .kind) .runs) refl))
   where

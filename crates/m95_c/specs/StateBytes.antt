@@ -3,7 +3,7 @@
 -- From 12: eleven flags of 0 or 1, for C, D, S, HOLD, W, selected, held, W seen low, turned away, WEL and the lock.
 -- From 23: the instruction, the level of Q and the cycle, each by its place in its list.
 -- From 26: bits received, their value, whole bytes, the last; the byte being sent; status bits, a cycle's new ones; three that mean nothing.
-use Rattle.rules.specs.World.{ℕ, _+_, _/_, _%_, _^_, Bool, _&&_, List, [], _∷_, _++_, getD, take, drop, length, eqb, leb, if_then_else_, number, withSelection}
+use Rattle.rules.specs.World.{ℕ, _/_, _%_, _^_, Bool, _&&_, List, [], _∷_, _++_, getD, take, drop, length, eqb, leb, if_then_else_, number, withSelection}
 use Rattle.rules.specs.declared.Instruction.{Instruction}
 use Rattle.rules.specs.declared.Kind.{Kind}
 use Rattle.rules.specs.declared.Level.{Level}

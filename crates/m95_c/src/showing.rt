@@ -1,4 +1,4 @@
-// The calls that show and change nothing: sizes, the status, what is stored, pages. The answer goes to the numbers that are lent for it.
+// The calls that show a size, the status, what is stored or a page. A size is given back; the rest goes to the numbers that are lent for it.
 
 ghost use mathlib.Core.Path.{_≡_};
 ghost use Rattle.m95_c.specs.Left.{sizesOf, toldAs, statusLeft, keptAs, storedLeft, placedAs, cellPageLeft, identificationPageLeft};

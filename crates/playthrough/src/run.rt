@@ -17,7 +17,7 @@ use player::pieces;
 use player::pieces::Played;
 use rules::State;
 
-// Closes ANSWERS after a run, and answers whether it is not whole. Trouble is told.
+// Tells of trouble after a run, closes ANSWERS where the trace was read to its end, and answers whether ANSWERS is not whole.
 fn is_unwritten(ran: Played, output: i32, trace: &[u8], answers: &[u8]) -> bool {
     if ran.unread {
         fail(b"play: cannot read to its end the trace ", trace);

@@ -1,7 +1,9 @@
--- Laws on choices by a test, and on tests joined by "and", "or" and "not".
+-- Laws on choices by a test, on tests joined by "and", "or" and "not", on lists of tests, and on a bit as a number.
+use Prim.Native.Nat.{_≤_}
 use mathlib.Core.Path.{_≡_, refl, sym, _∙_}
 use mathlib.Core.Bool.{Bool, true, false, _&&_, _||_, true≢false}
 use mathlib.Core.List.{List, [], _∷_}
+use native.Mathlib.Omega.{arith}
 use lib.Dec.{eqb}
 use Rattle.rules.specs.World.{if_then_else_, number}
 use Rattle.rules.specs.Sound.{all}
@@ -86,7 +88,11 @@ pub all-of : (bs : List Bool) → Hold bs → all bs ≡ true
 all-of [] e = refl
 all-of (b ∷ bs) e = and-both b (all bs) (e .0) (all-of bs (e .1))
 
--- A bit as a number, read back.
+-- A bit as a number: 0 or 1, and the bit again.
+pub number-small : (b : Bool) → number b ≤ 1
+number-small true = omega arith
+number-small false = omega arith
+
 pub number-back : (b : Bool) → eqb (number b) 1 ≡ b
 number-back true = refl
 number-back false = refl

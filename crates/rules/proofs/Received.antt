@@ -16,15 +16,11 @@ use Rattle.rules.specs.Instruction.{facts, decode, busy, latches, turned
 use Rattle.rules.specs.Receive.{isCode, isAddress, isLast, isLatched, commandAfter, addressAfter, cleared, marked, latchAfter, inputAfter}
 use Rattle.rules.specs.Send.{going, sourceOf, shownAddress}
 use Rattle.rules.specs.Sound.{SoundInput}
-use Rattle.rules.proofs.Choice.{if-elim, clash, and-both}
+use Rattle.rules.proofs.Choice.{if-elim, clash, and-both, number-small}
 use Rattle.rules.proofs.Latch.{cleared-mark, mark-read}
 use Rattle.rules.proofs.Widths.{page-positive, page-below, longer-inside, rolled-inside}
 
 -- One bit more.
-number-small : (b : Bool) → number b ≤ 1
-number-small true = omega arith
-number-small false = omega arith
-
 pub whole-sound : (v : ℕ) (i : Input) → SoundInput (record { bits = 0; value = 0; bytes = min (i .bytes + 1) 6; last = v })
 whole-sound v i = record { few = omega arith; small = lit< tt; counted = min-le-right (i .bytes + 1) 6 }
 

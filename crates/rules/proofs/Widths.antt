@@ -97,7 +97,7 @@ module _ {row : Row} (v : Widths row) where
   page-below = rw (v .page, v .cells) (pow-lt (omega (arith, v .quarters)))
 
   -- The cells are whole pages.
-  pub pages : row .cells ≡ 2 ^ (v .cellBits - v .pageBits) * row .page
+  pages : row .cells ≡ 2 ^ (v .cellBits - v .pageBits) * row .page
   pages =
       let e : v .cellBits ≡ v .cellBits - v .pageBits + v .pageBits = omega (arith, v .quarters) in
       rw (v .cells, v .page, ← (pow-add 2 (v .cellBits - v .pageBits) (v .pageBits)), ← e)

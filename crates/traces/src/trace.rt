@@ -119,9 +119,8 @@ pub fn one(
     at: usize,
     n: usize,
 ) -> Turn
-    requires { ⌜
-        (Widths row) × (Sound row (worldOf s (now cells) (now identification) (now latch)))
-        × (Lent row (worldOf s (now cells) (now identification) (now latch))) × (at < length (now trace)) ⌝ }
+    requires { ⌜ (Widths row) × (Sound row (worldOf s (now cells) (now identification) (now latch))) × (Lent row (worldOf s (now cells) (now identification) (now latch))) ⌝ }
+    requires { ⌜ at < length (now trace) ⌝ }
     ensures { λ r. ⌜
         progressOf (r .number) (r .taken) (r .done) (worldOf (r .state) (now (cells .exit)) (now (identification .exit)) (now (latch .exit))) (now (answers .exit))
         ≡ turn row (now (trace .entry)) (progressOf 0 at n (worldOf s (now (cells .entry)) (now (identification .entry)) (now (latch .entry))) (now (answers .entry))) ⌝ }

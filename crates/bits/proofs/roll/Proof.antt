@@ -3,7 +3,7 @@ use Prim.Native.Nat.{_+_}
 use native.Mathlib.Nat.{mod-lt, mod-le}
 use Rattle.rules.proofs.Widths.{page-below, page-positive}
 use native.Mathlib.Omega.{arith}
-use Rattle.bits.proofs.Masks.{cells-fit, roll-eq}
+use Rattle.bits.proofs.Masks.{roll-eq}
 use borrow.Author.Needs.{needs}
 use Rattle.bits.proofs.roll.Statement.{statement}
 use Rattle.bits.proofs.roll.Tie as tie
@@ -15,7 +15,7 @@ sub-result : tie.Need-sub-result
 sub-result c = omega (arith, c .place .ensures, mod-le (c .before .args .address) (c .before .args .row .page))
 
 add-place : tie.Need-add-place
-add-place c = omega (arith, c .place .ensures, c .before .pre .1, mod-le (c .before .args .address) (c .before .args .row .page), cells-fit (c .before .pre .0))
+add-place c = omega (arith, c .place .ensures, c .before .pre .1, mod-le (c .before .args .address) (c .before .args .row .page), c .before .pre .0 .cellsMost)
 
 place-requires-2 : tie.Need-place-requires-2
 place-requires-2 c κs = search needs
@@ -29,7 +29,7 @@ add-result c =
       at .ensures,
       c .place2 .ensures,
       start .pre .1,
-      cells-fit (start .pre .0),
+      start .pre .0 .cellsMost,
       page-below (start .pre .0),
       mod-lt (at .result + 1) {m = start .args .row .page} (page-positive (start .pre .0)),
     )

@@ -21,10 +21,10 @@ same-length-3 c = search needs
 
 returns : tie.Need-returns
 returns c =
-    let start = c .before .before .before .before .before .before .before .before .args in
-    let lent = worldOf (start .s) (start .cells .now) (start .identification .now) (start .latch .now) in
+    let given = c .before .before .before .before .before .before .before .before .args in
+    let lent = worldOf (given .s) (given .cells .now) (given .identification .now) (given .latch .now) in
     let judged = c .before .world-refused in
-    event-refused (start .device) lent (start .event) (judged .result) (judged .ensures) (c .if1 .taken)
+    event-refused (given .device) lent (given .event) (judged .result) (judged .ensures) (c .if1 .taken)
 
 refused-requires : tie.Need-refused-requires
 refused-requires c κs = search needs
@@ -40,11 +40,11 @@ same-length-6 c = search needs
 
 returns-2 : tie.Need-returns-2
 returns-2 c =
-    let start = c .before .before .before .before .before .before .before .before .before .before .args in
-    let lent = worldOf (start .s) (start .cells .now) (start .identification .now) (start .latch .now) in
+    let given = c .before .before .before .before .before .before .before .before .before .before .args in
+    let lent = worldOf (given .s) (given .cells .now) (given .identification .now) (given .latch .now) in
     let judged = c .before .before .before .world-refused in
     let asked = c .before .refused in
-    event-power (start .device) lent (start .event) (judged .result) (judged .ensures) (c .before .before .if1 .left) (asked .result) (asked .ensures (rowOf (start .device)) lent)
+    event-power (given .device) lent (given .event) (judged .result) (judged .ensures) (c .before .before .if1 .left) (asked .result) (asked .ensures (rowOf (given .device)) lent)
     (omega (arith, c .if2 .taken))
 
 row-of-requires : tie.Need-row-of-requires
@@ -52,11 +52,12 @@ row-of-requires c κs = search needs
 
 step-requires : tie.Need-step-requires
 step-requires c κs =
-    let start = c .before .before .before .before .before .before .before .before .before .before .before .before .before .before .args in
-    let lent = worldOf (start .s) (start .cells .now) (start .identification .now) (start .latch .now) in
+    let given = c .before .before .before .before .before .before .before .before .before .before .before .before .before .before .args in
+    let lent = worldOf (given .s) (given .cells .now) (given .identification .now) (given .latch .now) in
     let judged = c .before .before .before .before .before .before .before .world-refused in
     let row = c .before .before .before .row-of in
-    fine-row (start .device) lent (row .result) (judged .result) (row .ensures) (judged .ensures) (c .before .before .before .before .before .before .if1 .left)
+    let at-if1 = c .before .before .before .before .before .before in
+    fine-row (given .device) lent (row .result) (judged .result) (row .ensures) (judged .ensures) (at-if1 .if1 .left)
 
 answer-requires : tie.Need-answer-requires
 answer-requires c κs = search needs
@@ -76,13 +77,13 @@ same-length-9 c = search needs
 returns-3 : tie.Need-returns-3
 returns-3 c =
     let stepped = c .before .before .before .before .before .before .before in
-    let start = stepped .before .before .before .before .before .before .before .before .before .before .before .before .before .before .before .args in
-    let lent = worldOf (start .s) (start .cells .now) (start .identification .now) (start .latch .now) in
+    let given = stepped .before .before .before .before .before .before .before .before .before .before .before .before .before .before .before .args in
+    let lent = worldOf (given .s) (given .cells .now) (given .identification .now) (given .latch .now) in
     let judged = stepped .before .before .before .before .before .before .before .before .world-refused in
     let good = stepped .before .before .before .before .before .before .before .if1 .left in
     let asked = stepped .before .before .before .before .before .before .refused in
     let row = stepped .before .before .before .before .row-of in
-    event-done (start .device) lent (start .event) (judged .result) (judged .ensures) good (asked .result) (asked .ensures (rowOf (start .device)) lent) (row .result) _
+    event-done (given .device) lent (given .event) (judged .result) (judged .ensures) good (asked .result) (asked .ensures (rowOf (given .device)) lent) (row .result) _
     (c .answer .result) (omega (arith, stepped .before .before .before .before .before .if2 .left)) (row .ensures) (stepped .step .ensures) (c .answer .ensures)
 
 pub event-spec : {M : Type 1} → statement M

@@ -19,21 +19,22 @@ same-length-3 c = search needs
 
 returns : tie.Need-returns
 returns c =
-    let start = c .before .before .before .before .before .before .before .before .before .before .args in
-    let lent = worldOf (start .s) (start .cells .now) (start .identification .now) (start .latch .now) in
+    let given = c .before .before .before .before .before .before .before .before .before .before .args in
+    let lent = worldOf (given .s) (given .cells .now) (given .identification .now) (given .latch .now) in
     let judged = c .before .world-refused in
-    run-refused (start .device) lent (start .trace .now) (start .answers .now) (start .limit) (judged .result) (judged .ensures) (c .if1 .taken)
+    run-refused (given .device) lent (given .trace .now) (given .answers .now) (given .limit) (judged .result) (judged .ensures) (c .if1 .taken)
 
 row-of-requires : tie.Need-row-of-requires
 row-of-requires c κs = search needs
 
 run-records-requires : tie.Need-run-records-requires
 run-records-requires c κs =
-    let start = c .before .before .before .before .before .before .before .before .before .before .before .before .before .before .before .args in
-    let lent = worldOf (start .s) (start .cells .now) (start .identification .now) (start .latch .now) in
+    let given = c .before .before .before .before .before .before .before .before .before .before .before .before .before .before .before .args in
+    let lent = worldOf (given .s) (given .cells .now) (given .identification .now) (given .latch .now) in
     let judged = c .before .before .before .before .before .before .world-refused in
     let row = c .before .before .before .before .row-of in
-    fine-row (start .device) lent (row .result) (judged .result) (row .ensures) (judged .ensures) (c .before .before .before .before .before .if1 .left)
+    let at-if1 = c .before .before .before .before .before in
+    fine-row (given .device) lent (row .result) (judged .result) (row .ensures) (judged .ensures) (at-if1 .if1 .left)
 
 same-length-4 : tie.Need-same-length-4
 same-length-4 c = search needs
@@ -50,12 +51,12 @@ same-length-7 c = search needs
 returns-2 : tie.Need-returns-2
 returns-2 c =
     let ran = c .before .before .before .before .before .before .before .before in
-    let start = ran .before .before .before .before .before .before .before .before .before .before .before .before .before .before .before .before .args in
-    let lent = worldOf (start .s) (start .cells .now) (start .identification .now) (start .latch .now) in
+    let given = ran .before .before .before .before .before .before .before .before .before .before .before .before .before .before .before .before .args in
+    let lent = worldOf (given .s) (given .cells .now) (given .identification .now) (given .latch .now) in
     let judged = ran .before .before .before .before .before .before .before .world-refused in
     let good = ran .before .before .before .before .before .before .if1 .left in
     let row = ran .before .before .before .before .before .row-of in
-    run-done (start .device) lent (start .trace .now) (start .answers .now) (start .limit) (judged .result) (judged .ensures) (row .result) _ good
+    run-done (given .device) lent (given .trace .now) (given .answers .now) (given .limit) (judged .result) (judged .ensures) (row .result) _ good
     (row .ensures) (ran .run-records .ensures)
 
 pub run-spec : {M : Type 1} → statement M

@@ -31,11 +31,11 @@ same-length-4 c = search needs
 
 returns : tie.Need-returns
 returns c =
-    let start = c .before .before .before .before .before .before .before .before .before .before .before .before .before .args in
+    let given = c .before .before .before .before .before .before .before .before .before .before .before .before .before .args in
     let device = c .before .before .before .before .before .before .before .before .device-of in
     let read = c .before .before .before .before .before .before .state-of in
-    event-whole (start .device) (device .ensures) (buffersOf (start .state .now) (start .cells .now) (start .identification .now) (start .latch .now))
-    (read .ensures) (c .before .world-refused .ensures) (start .kind) (start .value) (c .if1 .taken)
+    event-whole (given .device) (device .ensures) (buffersOf (given .state .now) (given .cells .now) (given .identification .now) (given .latch .now))
+    (read .ensures) (c .before .world-refused .ensures) (given .kind) (given .value) (c .if1 .taken)
 
 same-length-5 : tie.Need-same-length-5
 same-length-5 c = search needs
@@ -51,12 +51,12 @@ same-length-8 c = search needs
 
 returns-2 : tie.Need-returns-2
 returns-2 c =
-    let start = c .before .before .before .before .before .before .before .before .before .before .before .before .before .before .args in
+    let given = c .before .before .before .before .before .before .before .before .before .before .before .before .before .before .args in
     let device = c .before .before .before .before .before .before .before .before .before .device-of in
     let read = c .before .before .before .before .before .before .before .state-of in
     let asked = c .before .before .before .before .before .before .event-refused in
-    event-bad (start .device) (device .ensures) (buffersOf (start .state .now) (start .cells .now) (start .identification .now) (start .latch .now))
-    (read .ensures) (c .before .before .world-refused .ensures) (start .kind) (start .value) (c .before .if1 .left) (asked .ensures) (c .if2 .taken)
+    event-bad (given .device) (device .ensures) (buffersOf (given .state .now) (given .cells .now) (given .identification .now) (given .latch .now))
+    (read .ensures) (c .before .before .world-refused .ensures) (given .kind) (given .value) (c .before .if1 .left) (asked .ensures) (c .if2 .taken)
 
 event-of-requires : tie.Need-event-of-requires
 event-of-requires c κs = search needs
@@ -79,26 +79,26 @@ same-length-12 c = search needs
 returns-3 : tie.Need-returns-3
 returns-3 c =
     let at-event = c .before .before .before .before .before .before .before .before in
-    let start = at-event .before .before .before .before .before .before .before .before .before .before .before .before .before .before .before .before .before .before .before .args in
+    let given = at-event .before .before .before .before .before .before .before .before .before .before .before .before .before .before .before .before .before .before .before .args in
     let device = at-event .before .before .before .before .before .before .before .before .before .before .before .before .before .before .device-of in
     let read = at-event .before .before .before .before .before .before .before .before .before .before .before .before .state-of in
     let asked = at-event .before .before .before .before .before .before .before .before .before .before .before .event-refused in
     let judged = at-event .before .before .before .before .before .before .before .world-refused in
     let whole = at-event .before .before .before .before .before .before .if1 .left in
     let good = at-event .before .before .before .before .before .if2 .left in
-    event-refused (start .device) (device .ensures) (buffersOf (start .state .now) (start .cells .now) (start .identification .now) (start .latch .now))
-    (read .ensures) (judged .ensures) (start .kind) (start .value) whole (asked .ensures) good (at-event .before .event-of .ensures) (at-event .event .ensures)
+    event-refused (given .device) (device .ensures) (buffersOf (given .state .now) (given .cells .now) (given .identification .now) (given .latch .now))
+    (read .ensures) (judged .ensures) (given .kind) (given .value) whole (asked .ensures) good (at-event .before .event-of .ensures) (at-event .event .ensures)
     (c .if3 .taken)
 
 put-state-requires : tie.Need-put-state-requires
 put-state-requires c κs =
     let at-event = c .before .before .before .before .before .before .before .before .before in
-    let start = at-event .before .before .before .before .before .before .before .before .before .before .before .before .before .before .before .before .before .before .before .args in
+    let given = at-event .before .before .before .before .before .before .before .before .before .before .before .before .before .before .before .before .before .before .before .args in
     let device = at-event .before .before .before .before .before .before .before .before .before .before .before .before .before .before .device-of in
     let read = at-event .before .before .before .before .before .before .before .before .before .before .before .before .state-of in
     let judged = at-event .before .before .before .before .before .before .before .world-refused in
     let whole = at-event .before .before .before .before .before .before .if1 .left in
-    state-long (device .result) (start .state .now) (start .cells .now) (start .identification .now) (start .latch .now) (read .ensures) (judged .ensures) whole
+    state-long (device .result) (given .state .now) (given .cells .now) (given .identification .now) (given .latch .now) (read .ensures) (judged .ensures) whole
 
 same-length-13 : tie.Need-same-length-13
 same-length-13 c = search needs
@@ -116,15 +116,15 @@ returns-4 : tie.Need-returns-4
 returns-4 c =
     let taken = c .before .before .before .before .if3 .left in
     let at-event = c .before .before .before .before .before .before .before .before .before .before .before .before in
-    let start = at-event .before .before .before .before .before .before .before .before .before .before .before .before .before .before .before .before .before .before .before .args in
+    let given = at-event .before .before .before .before .before .before .before .before .before .before .before .before .before .before .before .before .before .before .before .args in
     let device = at-event .before .before .before .before .before .before .before .before .before .before .before .before .before .before .device-of in
     let read = at-event .before .before .before .before .before .before .before .before .before .before .before .before .state-of in
     let asked = at-event .before .before .before .before .before .before .before .before .before .before .before .event-refused in
     let judged = at-event .before .before .before .before .before .before .before .world-refused in
     let whole = at-event .before .before .before .before .before .before .if1 .left in
     let good = at-event .before .before .before .before .before .if2 .left in
-    event-done (start .device) (device .ensures) (buffersOf (start .state .now) (start .cells .now) (start .identification .now) (start .latch .now))
-    (read .ensures) (judged .ensures) (start .kind) (start .value) whole (asked .ensures) good (at-event .before .event-of .ensures) (at-event .event .ensures)
+    event-done (given .device) (device .ensures) (buffersOf (given .state .now) (given .cells .now) (given .identification .now) (given .latch .now))
+    (read .ensures) (judged .ensures) (given .kind) (given .value) whole (asked .ensures) good (at-event .before .event-of .ensures) (at-event .event .ensures)
     taken (c .before .before .put-state .ensures)
 
 pub m95-event-spec : {M : Type 1} → statement M

@@ -25,11 +25,11 @@ same-length-3 c = search needs
 
 returns : tie.Need-returns
 returns c =
-    let start = c .before .before .before .before .before .before .before .before .before .before .before .args in
+    let given = c .before .before .before .before .before .before .before .before .before .before .before .args in
     let device = c .before .before .before .before .before .before .device-of in
     let wrong = c .before .before .before .before .before .if1 .taken in
     let none = c .before .before .before .before .no-state in
-    prepare-roomless (start .device) (device .ensures) (buffersOf (start .state .now) (start .cells .now) (start .identification .now) (start .latch .now))
+    prepare-roomless (given .device) (device .ensures) (buffersOf (given .state .now) (given .cells .now) (given .identification .now) (given .latch .now))
     wrong (none .ensures) (c .world-refused .ensures)
 
 prepare-requires : tie.Need-prepare-requires
@@ -52,11 +52,11 @@ same-length-7 c = search needs
 
 returns-2 : tie.Need-returns-2
 returns-2 c =
-    let start = c .before .before .before .before .before .before .before .before .before .before .before .before .before .before .before .before .before .before .before .before .args in
+    let given = c .before .before .before .before .before .before .before .before .before .before .before .before .before .before .before .before .before .before .before .before .args in
     let device = c .before .before .before .before .before .before .before .before .before .before .before .before .before .before .before .device-of in
     let whole = c .before .before .before .before .before .before .before .before .before .before .before .before .before .before .if1 .left in
     let ready = c .before .before .before .before .before .before .before .before .before .before .prepare in
-    prepare-room (start .device) (device .ensures) (buffersOf (start .state .now) (start .cells .now) (start .identification .now) (start .latch .now))
+    prepare-room (given .device) (device .ensures) (buffersOf (given .state .now) (given .cells .now) (given .identification .now) (given .latch .now))
     whole (ready .ensures) (c .before .before .put-state .ensures)
 
 pub m95-prepare-spec : {M : Type 1} → statement M

@@ -28,11 +28,11 @@ same-length-4 c = search needs
 
 returns : tie.Need-returns
 returns c =
-    let start = c .before .before .before .before .before .before .before .before .before .before .before .before .before .before .args in
+    let given = c .before .before .before .before .before .before .before .before .before .before .before .before .before .before .args in
     let device = c .before .before .before .before .before .before .before .device-of in
     let read = c .before .before .before .before .before .state-of in
-    run-whole (start .device) (device .ensures) (buffersOf (start .state .now) (start .cells .now) (start .identification .now) (start .latch .now))
-    (read .ensures) (c .before .world-refused .ensures) (start .trace .now) (start .answers .now) (start .limit) (c .if1 .taken)
+    run-whole (given .device) (device .ensures) (buffersOf (given .state .now) (given .cells .now) (given .identification .now) (given .latch .now))
+    (read .ensures) (c .before .world-refused .ensures) (given .trace .now) (given .answers .now) (given .limit) (c .if1 .taken)
 
 run-requires : tie.Need-run-requires
 run-requires c κs = search needs
@@ -40,12 +40,12 @@ run-requires c κs = search needs
 put-state-requires : tie.Need-put-state-requires
 put-state-requires c κs =
     let at-run = c .before .before .before .before .before .before .before .before .before in
-    let start = at-run .before .before .before .before .before .before .before .before .before .before .before .before .before .before .before .before .before .before .before .args in
+    let given = at-run .before .before .before .before .before .before .before .before .before .before .before .before .before .before .before .before .before .before .before .args in
     let device = at-run .before .before .before .before .before .before .before .before .before .before .before .before .device-of in
     let read = at-run .before .before .before .before .before .before .before .before .before .before .state-of in
     let judged = at-run .before .before .before .before .before .before .world-refused in
     let whole = at-run .before .before .before .before .before .if1 .left in
-    state-long (device .result) (start .state .now) (start .cells .now) (start .identification .now) (start .latch .now) (read .ensures) (judged .ensures) whole
+    state-long (device .result) (given .state .now) (given .cells .now) (given .identification .now) (given .latch .now) (read .ensures) (judged .ensures) whole
 
 same-length-5 : tie.Need-same-length-5
 same-length-5 c = search needs
@@ -65,13 +65,13 @@ same-length-9 c = search needs
 returns-2 : tie.Need-returns-2
 returns-2 c =
     let at-run = c .before .before .before .before .before .before .before .before .before .before .before .before in
-    let start = at-run .before .before .before .before .before .before .before .before .before .before .before .before .before .before .before .before .before .before .before .args in
+    let given = at-run .before .before .before .before .before .before .before .before .before .before .before .before .before .before .before .before .before .before .before .args in
     let device = at-run .before .before .before .before .before .before .before .before .before .before .before .before .device-of in
     let read = at-run .before .before .before .before .before .before .before .before .before .before .state-of in
     let judged = at-run .before .before .before .before .before .before .world-refused in
     let whole = at-run .before .before .before .before .before .if1 .left in
-    run-left (start .device) (device .ensures) (buffersOf (start .state .now) (start .cells .now) (start .identification .now) (start .latch .now))
-    (read .ensures) (judged .ensures) (start .trace .now) (start .answers .now) (start .limit) whole
+    run-left (given .device) (device .ensures) (buffersOf (given .state .now) (given .cells .now) (given .identification .now) (given .latch .now))
+    (read .ensures) (judged .ensures) (given .trace .now) (given .answers .now) (given .limit) whole
     (at-run .run .ensures)
     (c .before .before .put-state .ensures)
 

@@ -24,10 +24,10 @@ part-result-end c = search needs
 
 returns : tie.Need-returns
 returns c =
-    let start = c .before .before .before .before .before .args in
+    let given = c .before .before .before .before .before .args in
     let row = c .before .before .before .row-of in
     let known = c .before .before .is-device in
-    cell-device (start .device) (row .result) (known .result) (row .ensures) (known .ensures) (start .cells .now) (start .address) (c .before .if1 .taken)
+    cell-device (given .device) (row .result) (known .result) (row .ensures) (known .ensures) (given .cells .now) (given .address) (c .before .if1 .taken)
 
 sub-result-2 : tie.Need-sub-result-2
 sub-result-2 c = search needs
@@ -40,10 +40,10 @@ part-result-end-2 c = search needs
 
 returns-2 : tie.Need-returns-2
 returns-2 c =
-    let start = c .before .before .before .before .before .before .before .args in
+    let given = c .before .before .before .before .before .before .before .args in
     let row = c .before .before .before .before .before .row-of in
     let known = c .before .before .before .before .is-device in
-    cell-length (start .device) (row .result) (known .result) (row .ensures) (known .ensures) (start .cells .now) (start .address)
+    cell-length (given .device) (row .result) (known .result) (row .ensures) (known .ensures) (given .cells .now) (given .address)
     (c .before .before .before .if1 .left) (c .before .if2 .taken)
 
 sub-result-3 : tie.Need-sub-result-3
@@ -57,21 +57,24 @@ part-result-end-3 c = search needs
 
 returns-3 : tie.Need-returns-3
 returns-3 c =
-    let start = c .before .before .before .before .before .before .before .before .before .args in
+    let given = c .before .before .before .before .before .before .before .before .before .args in
     let row = c .before .before .before .before .before .before .before .row-of in
     let known = c .before .before .before .before .before .before .is-device in
-    cell-past (start .device) (row .result) (known .result) (row .ensures) (known .ensures) (start .cells .now) (start .address)
-    (c .before .before .before .before .before .if1 .left) (c .before .before .before .if2 .left) (c .before .if3 .taken)
+    let at-if1 = c .before .before .before .before .before in
+    cell-past (given .device) (row .result) (known .result) (row .ensures) (known .ensures) (given .cells .now) (given .address)
+    (at-if1 .if1 .left) (c .before .before .before .if2 .left) (c .before .if3 .taken)
 
 place-requires : tie.Need-place-requires
 place-requires c κs =
     let row = c .before .before .before .before .before .before .row-of in
-    row-widths (c .before .before .before .before .before .before .before .before .args .device) (row .result) (row .ensures)
+    let start = c .before .before .before .before .before .before .before .before in
+    row-widths (start .args .device) (row .result) (row .ensures)
 
 sub-start : tie.Need-sub-start
 sub-start c =
     let row = c .before .before .before .before .before .before .before .row-of in
-    omega (arith, c .place .ensures, mod-le (c .before .before .before .before .before .before .before .before .before .args .address) (row .result .page))
+    let start = c .before .before .before .before .before .before .before .before .before in
+    omega (arith, c .place .ensures, mod-le (start .args .address) (row .result .page))
 
 add-end : tie.Need-add-end
 add-end c =
@@ -97,12 +100,14 @@ part-result-end-4 c =
 
 returns-4 : tie.Need-returns-4
 returns-4 c =
-    let start = c .before .before .before .before .before .before .before .before .before .before .args in
+    let given = c .before .before .before .before .before .before .before .before .before .before .args in
     let row = c .before .before .before .before .before .before .before .before .row-of in
     let known = c .before .before .before .before .before .before .before .is-device in
     let place = c .before .place in
-    cell-shown (start .device) (row .result) (known .result) (row .ensures) (known .ensures) (start .cells .now) (start .address) (c .before .before .before .before .before .before .if1 .left)
-    (c .before .before .before .before .if2 .left) (place .result) _ (c .before .before .if3 .left) (place .ensures) (omega arith)
+    let at-if2 = c .before .before .before .before in
+    let at-if1 = c .before .before .before .before .before .before in
+    cell-shown (given .device) (row .result) (known .result) (row .ensures) (known .ensures) (given .cells .now) (given .address) (at-if1 .if1 .left)
+    (at-if2 .if2 .left) (place .result) _ (c .before .before .if3 .left) (place .ensures) (omega arith)
 
 pub cell-page-spec : {M : Type 1} → statement M
 cell-page-spec =

@@ -22,10 +22,10 @@ part-result-end c = search needs
 
 returns : tie.Need-returns
 returns c =
-    let start = c .before .before .before .before .before .args in
+    let given = c .before .before .before .before .before .args in
     let row = c .before .before .before .row-of in
     let known = c .before .before .is-device in
-    page-device (start .device) (row .result) (known .result) (row .ensures) (known .ensures) (start .identification .now) (c .before .if1 .taken)
+    page-device (given .device) (row .result) (known .result) (row .ensures) (known .ensures) (given .identification .now) (c .before .if1 .taken)
 
 sub-result-2 : tie.Need-sub-result-2
 sub-result-2 c = search needs
@@ -38,18 +38,18 @@ part-result-end-2 c = search needs
 
 returns-2 : tie.Need-returns-2
 returns-2 c =
-    let start = c .before .before .before .before .before .before .before .args in
+    let given = c .before .before .before .before .before .before .before .args in
     let row = c .before .before .before .before .before .row-of in
     let known = c .before .before .before .before .is-device in
-    page-length (start .device) (row .result) (known .result) (row .ensures) (known .ensures) (start .identification .now) (c .before .before .before .if1 .left)
+    page-length (given .device) (row .result) (known .result) (row .ensures) (known .ensures) (given .identification .now) (c .before .before .before .if1 .left)
     (omega (arith, c .before .if2 .taken))
 
 returns-3 : tie.Need-returns-3
 returns-3 c =
-    let start = c .before .before .before .before .before .before .args in
+    let given = c .before .before .before .before .before .before .args in
     let row = c .before .before .before .before .row-of in
     let known = c .before .before .before .is-device in
-    page-shown (start .device) (row .result) (known .result) (row .ensures) (known .ensures) (start .identification .now) (c .before .before .if1 .left)
+    page-shown (given .device) (row .result) (known .result) (row .ensures) (known .ensures) (given .identification .now) (c .before .before .if1 .left)
     (omega (arith, c .if2 .left))
 
 pub identification-page-spec : {M : Type 1} → statement M

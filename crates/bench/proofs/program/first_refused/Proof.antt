@@ -39,19 +39,19 @@ two-at-requires-2 c κs = search needs
 
 returns-4 : tie.Need-returns-4
 returns-4 c =
-    let head = c .before .before .before .before in
-    let fits = head .before in
-    let start = fits .before .before in
-    first-length (start .args .input .now) (omega (arith, fits .if1 .left)) (head .if2 .left) (c .before .before .before .two-at .ensures)
+    let at-if2 = c .before .before .before .before in
+    let at-if1 = at-if2 .before in
+    let start = at-if1 .before .before in
+    first-length (start .args .input .now) (omega (arith, at-if1 .if1 .left)) (at-if2 .if2 .left) (c .before .before .before .two-at .ensures)
     (c .before .before .if3 .left) (c .before .two-at2 .ensures) (c .if4 .taken)
 
 returns-5 : tie.Need-returns-5
 returns-5 c =
     let at-kind = c .before .before .before .before in
-    let head = at-kind .before in
-    let fits = head .before in
-    let start = fits .before .before in
-    first-body (start .args .input .now) (omega (arith, fits .if1 .left)) (head .if2 .left) (at-kind .two-at .ensures) (c .before .before .before .if3 .left)
+    let at-if2 = at-kind .before in
+    let at-if1 = at-if2 .before in
+    let start = at-if1 .before .before in
+    first-body (start .args .input .now) (omega (arith, at-if1 .if1 .left)) (at-if2 .if2 .left) (at-kind .two-at .ensures) (c .before .before .before .if3 .left)
     (c .before .before .two-at2 .ensures) (c .before .if4 .left) (c .if5 .taken)
 
 shared-slice-read-device : tie.Need-shared-slice-read-device

@@ -27,7 +27,8 @@ settle-requires-2 c κs = search needs
 returns-2 : tie.Need-returns-2
 returns-2 c =
     let given = c .before .before .before .before .before .before .args in
-    select-idle (given .row) (given .s) (c .before .before .before .before .before .if1 .taken) (c .before .before .if2 .left) (c .settle2 .ensures)
+    let at-if1 = c .before .before .before .before .before in
+    select-idle (given .row) (given .s) (at-if1 .if1 .taken) (c .before .before .if2 .left) (c .settle2 .ensures)
 
 select-requires : tie.Need-select-requires
 select-requires c κs = search needs

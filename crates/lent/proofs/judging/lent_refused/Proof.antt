@@ -1,7 +1,7 @@
 -- `lent::judging::lent_refused` meets its contract.
 use native.Mathlib.Omega.{arith}
 use Rattle.rules.proofs.Widths.{row-widths}
-use Rattle.lent.proofs.Lending.{both-fit, lent-wrong}
+use Rattle.lent.proofs.Lending.{lent-wrong}
 use borrow.Author.Needs.{needs}
 use Rattle.lent.proofs.judging.lent_refused.Statement.{statement}
 use Rattle.lent.proofs.judging.lent_refused.Tie as tie
@@ -14,20 +14,20 @@ is-device-requires c κs = search needs
 
 add-first-wrong : tie.Need-add-first-wrong
 add-first-wrong c =
-    let start = c .before .before .before .before .before .before .args in
+    let given = c .before .before .before .before .before .before .args in
     let row = c .before .before .row-of in
-    omega (arith, both-fit (row-widths (start .device) (row .result) (row .ensures)))
+    omega (arith, row-widths (given .device) (row .result) (row .ensures) .pageMost)
 
 first-wrong-requires : tie.Need-first-wrong-requires
 first-wrong-requires c κs = search needs
 
 returns : tie.Need-returns
 returns c =
-    let start = c .before .before .before .before .before .before .before .args in
+    let given = c .before .before .before .before .before .before .before .args in
     let row = c .before .before .before .row-of in
     let known = c .before .before .is-device in
-    lent-wrong (start .device) (row .result) (known .result) (row .ensures) (known .ensures) (start .cells .now) (start .identification .now)
-    (start .latch .now) (c .first-wrong .result) (c .first-wrong .ensures)
+    lent-wrong (given .device) (row .result) (known .result) (row .ensures) (known .ensures) (given .cells .now) (given .identification .now)
+    (given .latch .now) (c .first-wrong .result) (c .first-wrong .ensures)
 
 pub lent-refused-spec : {M : Type 1} → statement M
 lent-refused-spec =

@@ -38,8 +38,9 @@ returns-3 c =
     let row = c .before .before .before .before .before .before .before .row-of in
     let bits = c .before .before .before .before .before .before .stored in
     let known = c .before .before .before .before .before .is-device in
+    let at-if1 = c .before .before .before .before in
     load-lock (start .args .device) (start .args .stored) (row .result) (known .result) (row .ensures) (known .ensures) (bits .result) (bits .ensures)
-    (c .before .before .before .before .if1 .left) (c .before .before .if2 .left) (omega (arith, c .if3 .taken))
+    (at-if1 .if1 .left) (c .before .before .if2 .left) (omega (arith, c .if3 .taken))
 
 returns-4 : tie.Need-returns-4
 returns-4 c =
@@ -47,8 +48,9 @@ returns-4 c =
     let row = c .before .before .before .before .before .before .before .row-of in
     let bits = c .before .before .before .before .before .before .stored in
     let known = c .before .before .before .before .before .is-device in
+    let at-if1 = c .before .before .before .before in
     load-whole (start .args .device) (start .args .stored) (row .result) (known .result) (row .ensures) (known .ensures) (bits .result) (bits .ensures)
-    (c .before .before .before .before .if1 .left) (c .before .before .if2 .left) (omega (arith, c .if3 .left))
+    (at-if1 .if1 .left) (c .before .before .if2 .left) (omega (arith, c .if3 .left))
 
 pub stored-refused-spec : {M : Type 1} → statement M
 stored-refused-spec =

@@ -23,10 +23,10 @@ same-length-3 c = search needs
 
 returns : tie.Need-returns
 returns c =
-    let start = c .before .before .before .before .before .before .before .before .before .args in
+    let given = c .before .before .before .before .before .before .before .before .before .args in
     let judged = c .before .before .lent-refused in
     let fresh = c .before .prepared-state in
-    prepare-refused (start .device) (fresh .result) (start .cells .now) (start .identification .now) (start .latch .now) (judged .result)
+    prepare-refused (given .device) (fresh .result) (given .cells .now) (given .identification .now) (given .latch .now) (judged .result)
     (judged .ensures) (fresh .ensures) (c .if1 .taken)
 
 row-of-requires : tie.Need-row-of-requires
@@ -37,13 +37,13 @@ fill-requires c κs = search needs
 
 prepare-identification-requires : tie.Need-prepare-identification-requires
 prepare-identification-requires c κs =
-    let start = c .before .before .before .before .before .before .before .before .before .before .before .before .before .before .before .args in
+    let given = c .before .before .before .before .before .before .before .before .before .before .before .before .before .before .before .args in
     let judged = c .before .before .before .before .before .before .before .before .lent-refused in
     let fresh = c .before .before .before .before .before .before .before .prepared-state in
     let good = c .before .before .before .before .before .before .if1 .left in
     let row = c .before .before .before .before .before .row-of in
-    let whole = lent-fine (start .device) (fresh .result) (start .cells .now) (start .identification .now) (start .latch .now) (sym (judged .ensures) ∙ good) in
-    (row-widths (start .device) (row .result) (row .ensures), whole .identification ∙ page-at (start .device) (row .result) (row .ensures))
+    let whole = lent-fine (given .device) (fresh .result) (given .cells .now) (given .identification .now) (given .latch .now) (sym (judged .ensures) ∙ good) in
+    (row-widths (given .device) (row .result) (row .ensures), whole .identification ∙ page-at (given .device) (row .result) (row .ensures))
 
 fill-requires-2 : tie.Need-fill-requires-2
 fill-requires-2 c κs = search needs
@@ -60,13 +60,14 @@ same-length-6 c = search needs
 returns-2 : tie.Need-returns-2
 returns-2 c =
     let filled = c .before .before .before .before .before .before .before .before .before .before in
-    let start = filled .before .before .before .before .before .before .before .before .before .before .before .before .args in
+    let given = filled .before .before .before .before .before .before .before .before .before .before .before .before .args in
     let judged = filled .before .before .before .before .before .lent-refused in
     let fresh = filled .before .before .before .before .prepared-state in
     let good = filled .before .before .before .if1 .left in
     let row = filled .before .before .row-of in
-    prepare-done (start .device) (fresh .result) (start .cells .now) (start .identification .now) (start .latch .now) (judged .result)
-    (judged .ensures) (fresh .ensures) (row .result) _ _ _ good (row .ensures) (filled .fill .ensures) (c .before .before .before .before .before .before .prepare-identification .ensures)
+    let at-prepare-identification = c .before .before .before .before .before .before in
+    prepare-done (given .device) (fresh .result) (given .cells .now) (given .identification .now) (given .latch .now) (judged .result)
+    (judged .ensures) (fresh .ensures) (row .result) _ _ _ good (row .ensures) (filled .fill .ensures) (at-prepare-identification .prepare-identification .ensures)
     (c .before .before .fill2 .ensures)
 
 pub prepare-spec : {M : Type 1} → statement M

@@ -10,8 +10,8 @@ silent-requires c κs = search needs
 
 returns : tie.Need-returns
 returns c =
-    let start = c .before .before .before .args in
-    said-raw (start .row) (start .length) (start .stored) _ (c .silent .ensures) (c .before .if1 .taken)
+    let given = c .before .before .before .args in
+    said-raw (given .row) (given .length) (given .stored) _ (c .silent .ensures) (c .before .if1 .taken)
 
 add-if2 : tie.Need-add-if2
 add-if2 c = omega (arith, file-fits (c .before .before .before .pre))
@@ -24,13 +24,13 @@ silent-requires-2 c κs = search needs
 
 returns-2 : tie.Need-returns-2
 returns-2 c =
-    let start = c .before .before .before .before .before .args in
-    said-length (start .row) (start .length) (start .stored) (c .before .before .before .if1 .left) _ (c .silent2 .ensures) (c .before .if2 .taken)
+    let given = c .before .before .before .before .before .args in
+    said-length (given .row) (given .length) (given .stored) (c .before .before .before .if1 .left) _ (c .silent2 .ensures) (c .before .if2 .taken)
 
 returns-3 : tie.Need-returns-3
 returns-3 c =
-    let start = c .before .before .before .before .args in
-    said-whole (start .row) (start .length) (start .stored) (c .before .before .if1 .left) (c .if2 .left)
+    let given = c .before .before .before .before .args in
+    said-whole (given .row) (given .length) (given .stored) (c .before .before .if1 .left) (c .if2 .left)
 
 pub judged-spec : {M : Type 1} → statement M
 judged-spec =

@@ -40,18 +40,24 @@ add-judged c = search needs
 
 add-judged-2 : tie.Need-add-judged-2
 add-judged-2 c =
-    let start = c .before .before .before .before .before .before .before .before .before .before .before .before .before .before .before .before .before .before .before .before in
+    let at-tail2 = c .before .before .before .before .before .before .before in
+    let at-read-up3 = at-tail2 .before in
+    let at-identification = at-read-up3 .before .before .before in
+    let at-read-up2 = at-identification .before in
+    let at-cells = at-read-up2 .before .before .before in
+    let at-read-up = at-cells .before in
+    let start = at-read-up .before .before .before .before in
     omega (
       arith,
       file-fits (start .pre .0),
       start .pre .1,
       start .pre .2,
-      c .before .before .before .before .before .before .before .before .before .before .before .before .before .before .before .before .read-up .ensures .0,
-      c .before .before .before .before .before .before .before .before .before .before .before .before .read-up2 .ensures .0,
-      c .before .before .before .before .before .before .before .before .read-up3 .ensures .0,
-      c .before .before .before .before .before .before .before .before .before .before .before .before .before .before .before .cells .given,
-      c .before .before .before .before .before .before .before .before .before .before .before .identification .given,
-      c .before .before .before .before .before .before .before .tail2 .given,
+      at-read-up .read-up .ensures .0,
+      at-read-up2 .read-up2 .ensures .0,
+      at-read-up3 .read-up3 .ensures .0,
+      at-cells .cells .given,
+      at-identification .identification .given,
+      at-tail2 .tail2 .given,
     )
 
 judged-requires : tie.Need-judged-requires

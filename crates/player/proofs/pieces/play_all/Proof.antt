@@ -29,8 +29,8 @@ loop-holds c =
 play-piece-requires : tie.Need-play-piece-requires Inv-loop μ-loop
 play-piece-requires c κs =
     let head = c .before .before .before .before .before .before .before in
-    let start = head .before .before .before .before .before .before in
     let kept = head .loop .inv in
+    let start = head .before .before .before .before .before .before in
     (kept .0, (kept .1, omega (arith, start .pre .1 .1, kept .2, kept .3), omega (arith, start .pre .1 .2, kept .2)))
 
 sub-turns : tie.Need-sub-turns Inv-loop μ-loop
@@ -47,16 +47,19 @@ loop-less c =
 
 loop-again : tie.Need-loop-again Inv-loop μ-loop
 loop-again c =
-    let done = c .before .before .before .before .before .before .before .before .before .before in
+    let at-latch = c .before .before .before .before .before in
+    let at-identification = at-latch .before .before in
+    let at-cells = at-identification .before .before in
+    let done = at-cells .before in
     let head = done .before .before .before .before .before .before .before .before in
     let kept = head .loop .inv in (
       done .play-piece .ensures .0,
       done .play-piece .ensures .1,
       c .before .before .before .buf .given ∙ kept .2,
       c .before .answers .given ∙ kept .3,
-      c .before .before .before .before .before .before .before .before .before .cells .given ∙ kept .4,
-      c .before .before .before .before .before .before .before .identification .given ∙ kept .5,
-      c .before .before .before .before .before .latch .given ∙ kept .6,
+      at-cells .cells .given ∙ kept .4,
+      at-identification .identification .given ∙ kept .5,
+      at-latch .latch .given ∙ kept .6,
     )
 
 same-length : tie.Need-same-length Inv-loop μ-loop

@@ -12,31 +12,42 @@ row-of-requires : tie.Need-row-of-requires
 row-of-requires c κs = search needs
 
 add-both : tie.Need-add-both
-add-both c = omega (arith, room (c .before .before .before .before .before .args .device) (c .row-of .ensures) .1)
+add-both c =
+    let start = c .before .before .before .before .before in
+    omega (arith, room (start .args .device) (c .row-of .ensures) .1)
 
 array-borrow-prefix-cells : tie.Need-array-borrow-prefix-cells
-array-borrow-prefix-cells c = omega (arith, room (c .before .before .before .before .before .args .device) (c .row-of .ensures) .0)
+array-borrow-prefix-cells c =
+    let start = c .before .before .before .before .before in
+    omega (arith, room (start .args .device) (c .row-of .ensures) .0)
 
 slice-aggregate-play-lent : tie.Need-slice-aggregate-play-lent
 slice-aggregate-play-lent c =
     let row = c .before .row-of in
-    sym (length-take-le _ _ (omega (arith, room (c .before .before .before .before .before .before .args .device) (row .ensures) .0)))
+    let start = c .before .before .before .before .before .before in
+    sym (length-take-le _ _ (omega (arith, room (start .args .device) (row .ensures) .0)))
 
 array-borrow-prefix-identification : tie.Need-array-borrow-prefix-identification
-array-borrow-prefix-identification c = omega (arith, room (c .before .before .before .before .before .before .args .device) (c .before .row-of .ensures) .1)
+array-borrow-prefix-identification c =
+    let start = c .before .before .before .before .before .before in
+    omega (arith, room (start .args .device) (c .before .row-of .ensures) .1)
 
 slice-aggregate-play-lent-2 : tie.Need-slice-aggregate-play-lent-2
 slice-aggregate-play-lent-2 c =
     let row = c .before .before .row-of in
-    sym (length-take-le _ _ (omega (arith, room (c .before .before .before .before .before .before .before .args .device) (row .ensures) .1)))
+    let start = c .before .before .before .before .before .before .before in
+    sym (length-take-le _ _ (omega (arith, room (start .args .device) (row .ensures) .1)))
 
 array-borrow-prefix-latch : tie.Need-array-borrow-prefix-latch
-array-borrow-prefix-latch c = omega (arith, room (c .before .before .before .before .before .before .before .args .device) (c .before .before .row-of .ensures) .1)
+array-borrow-prefix-latch c =
+    let start = c .before .before .before .before .before .before .before in
+    omega (arith, room (start .args .device) (c .before .before .row-of .ensures) .1)
 
 slice-aggregate-play-lent-3 : tie.Need-slice-aggregate-play-lent-3
 slice-aggregate-play-lent-3 c =
     let row = c .before .before .before .row-of in
-    sym (length-take-le _ _ (omega (arith, room (c .before .before .before .before .before .before .before .before .args .device) (row .ensures) .1)))
+    let start = c .before .before .before .before .before .before .before .before in
+    sym (length-take-le _ _ (omega (arith, room (start .args .device) (row .ensures) .1)))
 
 play-lent-requires : tie.Need-play-lent-requires
 play-lent-requires c κs =

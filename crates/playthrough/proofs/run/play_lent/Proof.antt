@@ -13,12 +13,12 @@ row-of-requires c κs = search needs
 
 load-requires : tie.Need-load-requires
 load-requires c κs =
-    let near = c .before .before .before .before .before .before .before .before .before in
-    let start = near .before .before .before .before .before .before .before .before .before .before .before in
+    let ready = c .before .before .before .before .before .before .before .before .before in
+    let start = ready .before .before .before .before .before .before .before .before .before .before .before in
     let given = start .args in
     let row = c .before .before .row-of in
     load-fits (given .device) (given .cells .now) (given .identification .now) (given .latch .now) (start .pre) _ _ _ _ _
-    (near .prepare .ensures) (row .result) (row .ensures)
+    (ready .prepare .ensures) (row .result) (row .ensures)
 
 is-faulty-requires : tie.Need-is-faulty-requires
 is-faulty-requires c κs = search needs
@@ -55,7 +55,9 @@ same-length-5 c =
     read .identification2 .given ∙ read .before .before .before .before .before .before .before .before .before .before .identification .given
 
 same-length-6 : tie.Need-same-length-6
-same-length-6 c = c .before .before .before .before .before .before .before .before .before .before .before .before .before .before .before .before .latch .given
+same-length-6 c =
+    let at-latch = c .before .before .before .before .before .before .before .before .before .before .before .before .before .before .before .before in
+    at-latch .latch .given
 
 returns-2 : tie.Need-returns-2
 returns-2 c = search needs
@@ -67,15 +69,18 @@ play-loaded-requires c κs =
     let ready = file .before .before .before .before .before .before .before .before .before .before in
     let start = ready .before .before .before .before .before .before .before .before .before .before .before in
     let given = start .args in
+    let at-identification2 = c .before .before .before .before .before .before .before .before .before in
+    let at-cells2 = c .before .before .before .before .before .before .before .before .before .before .before in
     loaded (given .device) (given .cells .now) (given .identification .now) (given .latch .now) (start .pre) _ _ _ _ _ (ready .prepare .ensures)
     (file .load .result .stored) (chip .result .number) (chip .result .state) _ _ (chip .ensures) (c .before .before .before .if2 .left)
-    (c .before .before .before .before .before .before .before .before .before .before .before .cells2 .given)
-    (c .before .before .before .before .before .before .before .before .before .identification2 .given)
+    (at-cells2 .cells2 .given)
+    (at-identification2 .identification2 .given)
 
 same-length-7 : tie.Need-same-length-7
 same-length-7 c =
     let read = c .before .before .before .before .before .before .before .before .before .before .before .before .before .before .before .before .before .before in
-    c .before .before .before .before .before .cells3 .given ∙ read .cells2 .given ∙ read .before .before .before .before .before .before .before .before .before .before .cells .given
+    let at-cells3 = c .before .before .before .before .before in
+    at-cells3 .cells3 .given ∙ read .cells2 .given ∙ read .before .before .before .before .before .before .before .before .before .before .cells .given
 
 same-length-8 : tie.Need-same-length-8
 same-length-8 c =

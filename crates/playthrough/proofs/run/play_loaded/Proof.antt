@@ -50,15 +50,16 @@ slice-aggregate-play-into c = search needs
 
 play-into-requires : tie.Need-play-into-requires
 play-into-requires c κs =
-    let run = c .before .before .before .before .started in
+    let begun = c .before .before .before .before .started in
     let read = c .before .before .before .before .before .before .before .before .before .before .before .before in
     let room = read .before .before in
     let start = room .before .before .before .before .before .before .before .before in
     let given = start .args in
+    let at-buf2 = c .before .before .before .before .before .before .before .before .before .before .before in
     let refused : State → Type 0 = λ (s : State). worldRefusal (given .device) (worldOf s (given .cells .now) (given .identification .now) (given .latch .now)) ≡ 0 in (
-      subst refused (sym (run .ensures .0)) (start .pre),
-      omega (arith, run .ensures .1, read .begin .ensures .0),
-      omega (arith, c .before .before .before .before .before .before .before .before .before .before .before .buf2 .given, room .large-buffer .ensures),
+      subst refused (sym (begun .ensures .0)) (start .pre),
+      omega (arith, begun .ensures .1, read .begin .ensures .0),
+      omega (arith, at-buf2 .buf2 .given, room .large-buffer .ensures),
     )
 
 replace-requires : tie.Need-replace-requires

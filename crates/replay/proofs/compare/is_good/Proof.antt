@@ -75,7 +75,8 @@ is-ended-requires c κs = search needs
 same-length : tie.Need-same-length
 same-length c =
     let ran = c .before .before .before .before .before .before .before .before .before .before .before .before .before .before .before .before .before in
-    c .before .before .before .before .before .before .before .cells2 .given ∙ ran .before .before .before .before .before .before .cells .given
+    let at-cells2 = c .before .before .before .before .before .before .before in
+    at-cells2 .cells2 .given ∙ ran .before .before .before .before .before .before .cells .given
 
 same-length-2 : tie.Need-same-length-2
 same-length-2 c = search needs

@@ -23,29 +23,40 @@ array-borrow-prefix-identification : tie.Need-array-borrow-prefix-identification
 array-borrow-prefix-identification c = omega (arith, room (c .before .before .before .args .h .device) (c .before .row-of .ensures) .1)
 
 slice-aggregate-is-good-2 : tie.Need-slice-aggregate-is-good-2
-slice-aggregate-is-good-2 c = sym (length-take-le _ _ (omega (arith, room (c .before .before .before .before .args .h .device) (c .before .before .row-of .ensures) .1)))
+slice-aggregate-is-good-2 c =
+    let start = c .before .before .before .before in
+    sym (length-take-le _ _ (omega (arith, room (start .args .h .device) (c .before .before .row-of .ensures) .1)))
 
 array-borrow-prefix-latch : tie.Need-array-borrow-prefix-latch
-array-borrow-prefix-latch c = omega (arith, room (c .before .before .before .before .args .h .device) (c .before .before .row-of .ensures) .1)
+array-borrow-prefix-latch c =
+    let start = c .before .before .before .before in
+    omega (arith, room (start .args .h .device) (c .before .before .row-of .ensures) .1)
 
 slice-aggregate-is-good-3 : tie.Need-slice-aggregate-is-good-3
-slice-aggregate-is-good-3 c = sym (length-take-le _ _ (omega (arith, room (c .before .before .before .before .before .args .h .device) (c .before .before .before .row-of .ensures) .1)))
+slice-aggregate-is-good-3 c =
+    let start = c .before .before .before .before .before in
+    sym (length-take-le _ _ (omega (arith, room (start .args .h .device) (c .before .before .before .row-of .ensures) .1)))
 
 array-borrow-prefix-blank : tie.Need-array-borrow-prefix-blank
-array-borrow-prefix-blank c = omega (arith, room (c .before .before .before .before .before .args .h .device) (c .before .before .before .row-of .ensures) .0)
+array-borrow-prefix-blank c =
+    let start = c .before .before .before .before .before in
+    omega (arith, room (start .args .h .device) (c .before .before .before .row-of .ensures) .0)
 
 slice-aggregate-is-good-4 : tie.Need-slice-aggregate-is-good-4
 slice-aggregate-is-good-4 c =
-    let row = c .before .before .before .before in
-    sym (length-take-le _ _ (omega (arith, room (row .before .before .args .h .device) (row .row-of .ensures) .0)))
+    let at-row-of = c .before .before .before .before in
+    sym (length-take-le _ _ (omega (arith, room (at-row-of .before .before .args .h .device) (at-row-of .row-of .ensures) .0)))
 
 array-borrow-prefix-factory : tie.Need-array-borrow-prefix-factory
-array-borrow-prefix-factory c = omega (arith, room (c .before .before .before .before .before .before .args .h .device) (c .before .before .before .before .row-of .ensures) .1)
+array-borrow-prefix-factory c =
+    let at-row-of = c .before .before .before .before in
+    let start = c .before .before .before .before .before .before in
+    omega (arith, room (start .args .h .device) (at-row-of .row-of .ensures) .1)
 
 slice-aggregate-is-good-5 : tie.Need-slice-aggregate-is-good-5
 slice-aggregate-is-good-5 c =
-    let row = c .before .before .before .before .before in
-    sym (length-take-le _ _ (omega (arith, room (row .before .before .args .h .device) (row .row-of .ensures) .1)))
+    let at-row-of = c .before .before .before .before .before in
+    sym (length-take-le _ _ (omega (arith, room (at-row-of .before .before .args .h .device) (at-row-of .row-of .ensures) .1)))
 
 array-borrow-prefix-answers : tie.Need-array-borrow-prefix-answers
 array-borrow-prefix-answers c = search needs
@@ -56,7 +67,9 @@ slice-aggregate-is-good-6 c =
     sym (length-take-le _ _ (omega (arith, start .pre .0, start .pre .1)))
 
 is-good-requires : tie.Need-is-good-requires
-is-good-requires c κs = (c .before .before .before .before .before .before .before .before .pre, (refl, refl))
+is-good-requires c κs =
+    let start = c .before .before .before .before .before .before .before .before in
+    (start .pre, (refl, refl))
 
 returns : tie.Need-returns
 returns c = search needs

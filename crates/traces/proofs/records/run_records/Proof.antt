@@ -65,7 +65,7 @@ one-requires c κs =
     let at-if1 = c .before .before .before .before .before .before .before in
     let head = at-if1 .before .before in
     let start = head .before .before .before .before .before .before in
-    (start .pre .0, head .loop .inv .sound, head .loop .inv .lent, at-if1 .if1 .left)
+    ((start .pre .0, head .loop .inv .sound, head .loop .inv .lent), at-if1 .if1 .left)
 
 same-length-5 : tie.Need-same-length-5 Inv-loop μ-loop
 same-length-5 c =

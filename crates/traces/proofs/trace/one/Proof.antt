@@ -19,7 +19,7 @@ returns : tie.Need-returns
 returns c =
     let start = c .before .before .before .before .before .before .before in
     let given = start .args in
-    turn-refused (given .row) (given .trace .now) (given .n) _ (given .answers .now) (start .pre .3)
+    turn-refused (given .row) (given .trace .now) (given .n) _ (given .answers .now) (start .pre .1)
     (c .before .refused .ensures _ (worldOf (given .s) (given .cells .now) (given .identification .now) (given .latch .now))) (c .if1 .taken)
 
 two-at-requires : tie.Need-two-at-requires
@@ -27,7 +27,7 @@ two-at-requires c κs =
     let start = c .before .before .before .before .before .before .before in
     let given = start .args in
     let done = taken (given .row) (given .trace .now) (given .at) (given .answers .now) (given .n) (given .s) (c .before .refused .ensures) (c .if1 .left) in
-    omega (arith, done .head, start .pre .3)
+    omega (arith, done .head, start .pre .1)
 
 add-two-at : tie.Need-add-two-at
 add-two-at c = search needs
@@ -37,14 +37,14 @@ two-at-requires-2 c κs =
     let start = c .before .before .before .before .before .before .before .before in
     let given = start .args in
     let done = taken (given .row) (given .trace .now) (given .at) (given .answers .now) (given .n) (given .s) (c .before .before .refused .ensures) (c .before .if1 .left) in
-    omega (arith, done .head, start .pre .3)
+    omega (arith, done .head, start .pre .1)
 
 event-at-requires : tie.Need-event-at-requires
 event-at-requires c κs =
     let start = c .before .before .before .before .before .before .before .before .before in
     let given = start .args in
     let done = taken (given .row) (given .trace .now) (given .at) (given .answers .now) (given .n) (given .s) (c .before .before .before .refused .ensures) (c .before .before .if1 .left) in
-    (c .two-at2 .ensures, omega (arith, done .body, done .size, start .pre .3, ap lengthOf (c .two-at2 .ensures)))
+    (c .two-at2 .ensures, omega (arith, done .body, done .size, start .pre .1, ap lengthOf (c .two-at2 .ensures)))
 
 add-next : tie.Need-add-next
 add-next c =
@@ -52,7 +52,7 @@ add-next c =
     let start = at-refused .before .before .before .before .before .before in
     let given = start .args in
     let done = taken (given .row) (given .trace .now) (given .at) (given .answers .now) (given .n) (given .s) (at-refused .refused .ensures) (c .before .before .before .if1 .left) in
-    omega (arith, done .body, c .before .before .two-at .ensures, start .pre .3, start .good)
+    omega (arith, done .body, c .before .before .two-at .ensures, start .pre .1, start .good)
 
 add-next-2 : tie.Need-add-next-2
 add-next-2 c =
@@ -60,7 +60,7 @@ add-next-2 c =
     let start = at-refused .before .before .before .before .before .before in
     let given = start .args in
     let done = taken (given .row) (given .trace .now) (given .at) (given .answers .now) (given .n) (given .s) (at-refused .refused .ensures) (c .before .before .before .if1 .left) in
-    omega (arith, done .body, c .before .before .two-at .ensures, start .pre .3, start .good)
+    omega (arith, done .body, c .before .before .two-at .ensures, start .pre .1, start .good)
 
 add-done : tie.Need-add-done
 add-done c =
@@ -108,7 +108,7 @@ returns-2 c =
     let start = at-refused .before .before .before .before .before .before in
     let given = start .args in
     let before = worldOf (given .s) (given .cells .now) (given .identification .now) (given .latch .now) in
-    turn-ends (given .row) (given .trace .now) (given .n) _ (given .answers .now) (start .pre .3)
+    turn-ends (given .row) (given .trace .now) (given .n) _ (given .answers .now) (start .pre .1)
     (sym (at-refused .refused .ensures _ before) ∙ at-if1 .if1 .left) (at-two-at .two-at .ensures) (at-event-at .event-at .ensures)
     (at-step .step .ensures) (c .answer .ensures) (omega arith) (omega arith)
 
