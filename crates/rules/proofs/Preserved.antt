@@ -31,9 +31,7 @@ pinned e w = withState (withPins (pinsAfter e (w .state .pins)) (w .state)) w
 
 -- The hold rule.
 pub settled-sound : {row : Row} {w : World} → Unsettled row w → Sound row (withState (settled (w .state)) w)
-settled-sound {row} {w} h =
-    let s = w .state in
-    let x = s .selection in
+settled-sound h =
     record {
       unsettled =
           record {
