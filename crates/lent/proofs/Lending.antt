@@ -14,7 +14,7 @@ use Rattle.rules.specs.World.{if_then_else_, worldOf, withStored}
 use Rattle.rules.specs.Device.{isDevice, rowOf, code, preparedState, prepared}
 use Rattle.rules.specs.Judge.{storable}
 use Rattle.rules.specs.Sound.{Lent}
-use Rattle.rules.specs.Call.{lentRefusal, preparedAs, prepareOutcome, poweredWith, loadedAs, loadOutcome}
+use Rattle.rules.specs.Call.{memoryRefusal, lentRefusal, preparedAs, prepareOutcome, poweredWith, loadedAs, loadOutcome}
 use Rattle.rules.proofs.Program.{lent-facts}
 
 -- A number from 1 to 4 is a device's.
@@ -25,16 +25,29 @@ a-device device a b = rw (le-leb 1 device a, le-leb device 4 b)
 pub page-at : (device : ℕ) (row : Row) → row ≡ rowOf device → rowOf device .page ≡ row .page
 page-at device row er = ap (λ (x : Row). x .page) (sym er)
 
-pub lent-wrong : (device : ℕ) (row : Row) (d : Bool) → row ≡ rowOf device → d ≡ isDevice device → (cells identification latch : List ℕ) (n : ℕ)
-    → n ≡ (if not d then 1 else if not (eqb (length cells) (row .cells)) then 2
-    else if not (eqb (length identification) (row .page)) then 3 else if not (eqb (length latch) (row .page + row .page)) then 4 else 0)
-    → n ≡ lentRefusal device cells identification latch
-unfolding lentRefusal
-lent-wrong device row d er ed cells identification latch n e = e ∙ rw (ed, er)
+pub memory-wrong : (device : ℕ) (row : Row) (d : Bool) → row ≡ rowOf device → d ≡ isDevice device → (cells identification : List ℕ) (n : ℕ)
+    → n ≡ (if not d then 1 else if not (eqb (length cells) (row .cells)) then 2 else if not (eqb (length identification) (row .page)) then 3 else 0)
+    → n ≡ memoryRefusal device cells identification
+unfolding memoryRefusal
+memory-wrong device row d er ed cells identification n e = e ∙ rw (ed, er)
+
+module _ (device : ℕ) (cells identification latch : List ℕ) (n : ℕ) (en : n ≡ memoryRefusal device cells identification) where
+  pub lent-memory : (n ≡ 0 → ⊥) → n ≡ lentRefusal device cells identification latch
+  unfolding lentRefusal
+  lent-memory z = rw (← en, ne-eqb n 0 z)
+
+  module _ (row : Row) (er : row ≡ rowOf device) (z : n ≡ 0) where
+    pub lent-latch : (length latch ≡ row .page + row .page → ⊥) → 4 ≡ lentRefusal device cells identification latch
+    unfolding lentRefusal
+    lent-latch a = rw (← en, z, ← er, ne-eqb (length latch) (row .page + row .page) a)
+
+    pub lent-whole : length latch ≡ row .page + row .page → 0 ≡ lentRefusal device cells identification latch
+    unfolding lentRefusal
+    lent-whole a = rw (← en, z, ← er, eq-eqb (length latch) (row .page + row .page) a)
 
 pub lent-room : (device : ℕ) (row : Row) → row ≡ rowOf device → isDevice device ≡ true → (cells identification latch : List ℕ) → length cells ≡ row .cells
     → length identification ≡ row .page → length latch ≡ row .page + row .page → lentRefusal device cells identification latch ≡ 0
-unfolding lentRefusal
+unfolding lentRefusal memoryRefusal
 lent-room device row e d cells identification latch ec ei el =
     rw (d, ← e, eq-eqb (length cells) (row .cells) ec, eq-eqb (length identification) (row .page) ei, eq-eqb (length latch) (row .page + row .page) el)
 

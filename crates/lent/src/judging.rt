@@ -2,11 +2,11 @@
 
 ghost use mathlib.Core.Path.{_≡_};
 ghost use Rattle.rules.specs.World.{if_then_else_};
-ghost use Rattle.rules.specs.Call.{lentRefusal};
+ghost use Rattle.rules.specs.Call.{memoryRefusal, lentRefusal};
 
 // The number of what is wrong first, in document 01's order, or 0. No number hangs on what else is wrong besides.
-fn first_wrong(device: bool, cells: bool, identification: bool, latch: bool) -> usize
-    ensures { λ r. ⌜ r ≡ (if device then 1 else if cells then 2 else if identification then 3 else if latch then 4 else 0) ⌝ }
+fn first_wrong(device: bool, cells: bool, identification: bool) -> usize
+    ensures { λ r. ⌜ r ≡ (if device then 1 else if cells then 2 else if identification then 3 else 0) ⌝ }
 {
     if device {
         return 1;
@@ -17,22 +17,32 @@ fn first_wrong(device: bool, cells: bool, identification: bool, latch: bool) -> 
     if identification {
         return 3;
     }
-    if latch {
-        return 4;
-    }
     0
 }
 
-// 1 to 4: no such device; cells, identification page or latch of a wrong length. 0 otherwise.
-pub fn lent_refused(device: u8, cells: &[u8], identification: &[u8], latch: &[u8]) -> usize
-    ensures { λ r. ⌜ r ≡ lentRefusal device (now (cells .entry)) (now (identification .entry)) (now (latch .entry)) ⌝ }
+// 1 to 3: no such device; cells or identification page of a wrong length. 0 otherwise.
+pub fn memory_refused(device: u8, cells: &[u8], identification: &[u8]) -> usize
+    ensures { λ r. ⌜ r ≡ memoryRefusal device (now (cells .entry)) (now (identification .entry)) ⌝ }
 {
     let row = tables::row_of(device);
-    let page = row.page;
     first_wrong(
         !tables::is_device(device),
         cells.len() != row.cells,
-        identification.len() != page,
-        latch.len() != page + page,
+        identification.len() != row.page,
     )
+}
+
+// 1 to 3, then 4: a latch of a wrong length. 0 otherwise.
+pub fn lent_refused(device: u8, cells: &[u8], identification: &[u8], latch: &[u8]) -> usize
+    ensures { λ r. ⌜ r ≡ lentRefusal device (now (cells .entry)) (now (identification .entry)) (now (latch .entry)) ⌝ }
+{
+    let number = memory_refused(device, cells, identification);
+    if number != 0 {
+        return number;
+    }
+    let row = tables::row_of(device);
+    if latch.len() == row.page + row.page {
+        return 0;
+    }
+    4
 }

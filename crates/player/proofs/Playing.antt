@@ -1,7 +1,6 @@
 -- A chip's file, one law for each way through the rule; the bytes that are kept; and what holds from piece to piece.
-use Prim.Native.Nat.{ℕ, zero, suc, _+_, _^_, _≤_, _<_}
-use mathlib.Core.Path.{_≡_, refl, sym, ap, _∙_, subst}
-use mathlib.Core.Bool.{Bool, true, false, not}
+use Prim.Native.Nat.{ℕ, suc, _+_, _^_, _≤_, _<_}
+use mathlib.Core.Path.{_≡_, sym, ap, _∙_, subst}
 use mathlib.Core.List.{List, [], _∷_, _++_}
 use native.Mathlib.Numerals.{add-one}
 use native.Mathlib.Omega.{arith}
@@ -12,10 +11,10 @@ use borrow.Author.Tests.{eq-eqb, ne-eqb}
 use Rattle.rules.specs.declared.Row.{Row}
 use Rattle.rules.specs.declared.Stored.{Stored}
 use Rattle.rules.specs.World.{World}
-use Rattle.rules.specs.Device.{Widths, isDevice, rowOf}
+use Rattle.rules.specs.Device.{Widths, rowOf}
 use Rattle.rules.specs.Trace.{Progress}
-use Rattle.rules.specs.Call.{lentRefusal, worldRefusal, storedAs, runOutcome}
-use Rattle.rules.proofs.Program.{world-taken}
+use Rattle.rules.specs.Call.{worldRefusal, storedAs, runOutcome}
+use Rattle.rules.proofs.Program.{world-taken, world-facts}
 use Rattle.rules.proofs.Runs.{Course}
 use Rattle.m95.proofs.Calling.{run-course}
 use Rattle.player.specs.declared.contents.Fault.{Fault}
@@ -67,23 +66,6 @@ moved-more b l from i place el ep h =
 pub moved-all : (b : List ℕ) (from n : ℕ) → from + n ≤ length b → take n (moved b from n) ≡ take n (drop from b)
 moved-all b from n h = take-at (take n (drop from b)) (drop n b) n (length-take-le n (drop from b) (omega (arith, length-drop from b)))
 
--- Buffers and worlds that are not refused are a device's.
-pub lent-known : (device : ℕ) (cells identification latch : List ℕ) → lentRefusal device cells identification latch ≡ 0 → isDevice device ≡ true
-unfolding lentRefusal
-lent-known device cells identification latch z = go (isDevice device) refl
-  where
-    go : (d : Bool) → isDevice device ≡ d → isDevice device ≡ true
-    go true e = e
-    go false e = absurd (omega (arith, rw e at z))
-
-known : (device : ℕ) (w : World) → worldRefusal device w ≡ 0 → isDevice device ≡ true
-unfolding worldRefusal
-known device w z = lent-known device (w .cells) (w .identification) (w .latch) (go (lentRefusal device (w .cells) (w .identification) (w .latch)) refl)
-  where
-    go : (n : ℕ) → lentRefusal device (w .cells) (w .identification) (w .latch) ≡ n → lentRefusal device (w .cells) (w .identification) (w .latch) ≡ 0
-    go zero e = e
-    go (suc n) e = absurd (omega (arith, rw (e, ne-eqb (suc n) 0 (λ h. absurd (omega arith))) at z))
-
 -- There is an answer byte for each byte of a piece.
 pub answered : (buf answers : List ℕ) (filled : ℕ) → filled ≤ length buf → length buf ≤ length answers → length (take filled buf) ≤ length answers
 answered buf answers filled inside room = omega (arith, inside, room, length-take-le filled buf inside)
@@ -100,7 +82,7 @@ module _ (device : ℕ) (w : World) (t a : List ℕ) (limit : ℕ) (p : Progress
   piece-taken = piece .inside
 
   pub piece-world : worldRefusal device (p .world) ≡ 0
-  piece-world = world-taken device (p .world) (known device w z) (piece .sound) (piece .lent)
+  piece-world = world-taken device (p .world) (world-facts device w z .0) (piece .sound) (piece .lent)
 
 -- What is read behind the bytes that are kept fits in the buffer.
 pub left-fits : (buf part : List ℕ) (c k m : ℕ) → c ≤ length buf → m ≤ length part → length (putMid c k buf part) ≡ length buf → c + m ≤ length buf

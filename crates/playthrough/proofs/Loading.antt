@@ -10,11 +10,10 @@ use Rattle.rules.specs.World.{worldOf}
 use Rattle.rules.specs.Device.{Widths, rowOf, prepared}
 use Rattle.rules.specs.Sound.{Sound, Lent}
 use Rattle.rules.specs.Call.{lentRefusal, worldRefusal, preparedAs, prepareOutcome, poweredWith, Loaded, loadedAs, loadOutcome}
-use Rattle.rules.proofs.Program.{world-taken}
+use Rattle.rules.proofs.Program.{world-taken, lent-facts}
 use Rattle.rules.proofs.Widths.{of-device}
 use Rattle.rules.proofs.Loaded.{load-taken, loaded-sound}
 use Rattle.rules.proofs.Incident.{prepared-sound, prepared-lent}
-use Rattle.player.proofs.Playing.{lent-known}
 
 -- A prepared chip with what its file holds is not refused.
 module _ (device : ℕ) (cells identification latch : List ℕ) (z : lentRefusal device cells identification latch ≡ 0)
@@ -37,4 +36,4 @@ module _ (device : ℕ) (cells identification latch : List ℕ) (z : lentRefusal
       let sound : Sound (rowOf device) (worldOf s c i l) = subst (Sound (rowOf device)) (sym ready) (prepared-sound (of-device device)) in
       let sound′ : Sound (rowOf device) (worldOf t c′ i′ l) = rw is (loaded-sound (of-device device) x c′ i′ l (sound .unsettled .marks) (taken .0)) in
       let lent : Lent (rowOf device) (worldOf t c′ i′ l) = record { cells = ec ∙ ready-lent .cells; identification = ei ∙ ready-lent .identification; latch = ready-lent .latch } in
-      world-taken device (worldOf t c′ i′ l) (lent-known device cells identification latch z) sound′ lent
+      world-taken device (worldOf t c′ i′ l) (lent-facts device (worldOf s cells identification latch) z .0) sound′ lent

@@ -12,7 +12,7 @@ use Rattle.rules.specs.World.{World}
 use Rattle.rules.specs.Device.{isDevice, rowOf, prepared}
 use Rattle.rules.specs.Sound.{isSound, Sound, Lent}
 use Rattle.rules.specs.Trace.{progressOf, run}
-use Rattle.rules.specs.Call.{lentRefusal, worldRefusal, runOutcome}
+use Rattle.rules.specs.Call.{memoryRefusal, lentRefusal, worldRefusal, runOutcome}
 use Rattle.rules.specs.Program as spec
 use Rattle.rules.proofs.Choice.{if-elim, clash}
 use Rattle.rules.proofs.Incident.{prepared-sound, prepared-lent}
@@ -22,7 +22,7 @@ use Rattle.rules.proofs.Widths.{of-device}
 
 -- A sound world of a device with buffers of its lengths is not refused.
 pub world-taken : (device : ℕ) (w : World) → isDevice device ≡ true → Sound (rowOf device) w → Lent (rowOf device) w → worldRefusal device w ≡ 0
-unfolding worldRefusal lentRefusal
+unfolding worldRefusal lentRefusal memoryRefusal
 world-taken device w d s l =
     let row = rowOf device in
     let cells = eq-eqb (length (w .cells)) (row .cells) (l .cells) in
@@ -30,28 +30,44 @@ world-taken device w d s l =
     let latch = eq-eqb (length (w .latch)) (row .page + row .page) (l .latch) in
     rw (d, cells, page, latch, reads row w .1 s)
 
--- And a world that is not refused is of a device, has buffers of its lengths, and is sound.
+-- Cells and an identification page that are not refused are of a device, and have its lengths.
+pub memory-facts : (device : ℕ) (cells identification : List ℕ) → memoryRefusal device cells identification ≡ 0
+    → (isDevice device ≡ true) × (length cells ≡ rowOf device .cells) × (length identification ≡ rowOf device .page)
+unfolding memoryRefusal
+memory-facts device cells identification =
+    let row = rowOf device in
+    let rightCells = eqb (length cells) (row .cells) in
+    let rightPage = eqb (length identification) (row .page) in
+    let P : ℕ → Type 0 = λ (n : ℕ). n ≡ 0 → (isDevice device ≡ true) × (length cells ≡ row .cells) × (length identification ≡ row .page) in
+    if-elim P (not (isDevice device)) (λ _ e. absurd (omega arith))
+    (λ d. if-elim P (not rightCells) (λ _ e. absurd (omega arith))
+    (λ c. if-elim P (not rightPage) (λ _ e. absurd (omega arith))
+    (λ i _. (
+      not-false (isDevice device) d,
+      eqb-true (length cells) (row .cells) (not-false rightCells c),
+      eqb-true (length identification) (row .page) (not-false rightPage i),
+    ))))
+
+-- Buffers that are not refused have its lengths too, and a world that is not refused is sound besides.
 module _ (device : ℕ) (w : World) where
   pub lent-facts : lentRefusal device (w .cells) (w .identification) (w .latch) ≡ 0 → (isDevice device ≡ true) × Lent (rowOf device) w
   unfolding lentRefusal
   lent-facts =
       let row = rowOf device in
-      let rightCells = eqb (length (w .cells)) (row .cells) in
-      let rightPage = eqb (length (w .identification)) (row .page) in
+      let n = memoryRefusal device (w .cells) (w .identification) in
       let rightLatch = eqb (length (w .latch)) (row .page + row .page) in
-      let P : ℕ → Type 0 = λ (n : ℕ). n ≡ 0 → (isDevice device ≡ true) × Lent row w in
-      if-elim P (not (isDevice device)) (λ _ e. absurd (omega arith))
-      (λ d. if-elim P (not rightCells) (λ _ e. absurd (omega arith))
-      (λ c. if-elim P (not rightPage) (λ _ e. absurd (omega arith))
-      (λ i. if-elim P (not rightLatch) (λ _ e. absurd (omega arith))
-      (λ l _. (
-        not-false (isDevice device) d,
+      let P : ℕ → Type 0 = λ (m : ℕ). m ≡ 0 → (isDevice device ≡ true) × Lent row w in
+      if-elim P (not (eqb n 0)) (λ h e. clash (sym h ∙ ap not (eq-eqb n 0 e)))
+      (λ h. if-elim P (not rightLatch) (λ _ e. absurd (omega arith))
+      (λ l _.
+      let memory = memory-facts device (w .cells) (w .identification) (eqb-true n 0 (not-false (eqb n 0) h)) in (
+        memory .0,
         record {
-          cells = eqb-true (length (w .cells)) (row .cells) (not-false rightCells c);
-          identification = eqb-true (length (w .identification)) (row .page) (not-false rightPage i);
+          cells = memory .1;
+          identification = memory .2;
           latch = eqb-true (length (w .latch)) (row .page + row .page) (not-false rightLatch l);
         },
-      )))))
+      )))
 
   pub world-facts : worldRefusal device w ≡ 0 → (isDevice device ≡ true) × Sound (rowOf device) w × Lent (rowOf device) w
   unfolding worldRefusal

@@ -6,12 +6,19 @@ use Rattle.rules.specs.Sound.{isSound}
 use Rattle.rules.specs.Event.{powered, step, answer, refusal}
 use Rattle.rules.specs.Trace.{two, answerByte, Progress, run}
 
--- 1 to 4: no such device; cells, identification page or latch of a wrong length.
-unfoldable pub lentRefusal : ℕ → List ℕ → List ℕ → List ℕ → ℕ
-lentRefusal device cells identification latch =
+-- 1 to 3: no such device; cells or identification page of a wrong length.
+unfoldable pub memoryRefusal : ℕ → List ℕ → List ℕ → ℕ
+memoryRefusal device cells identification =
     if not (isDevice device) then 1
     else if not (eqb (length cells) (rowOf device .cells)) then 2
     else if not (eqb (length identification) (rowOf device .page)) then 3
+    else 0
+
+-- 4 then: a latch of a wrong length.
+unfoldable pub lentRefusal : ℕ → List ℕ → List ℕ → List ℕ → ℕ
+lentRefusal device cells identification latch =
+    let n = memoryRefusal device cells identification in
+    if not (eqb n 0) then n
     else if not (eqb (length latch) (rowOf device .page + rowOf device .page)) then 4
     else 0
 

@@ -3,7 +3,7 @@ use mathlib.Core.Path.{ap, _∙_}
 use borrow.Author.Tests.{eq-eqb}
 use Rattle.rules.specs.declared.State.{State}
 use Rattle.rules.specs.Sound.{clauses, isSound}
-use Rattle.rules.specs.Call.{lentRefusal, worldRefusal}
+use Rattle.rules.specs.Call.{memoryRefusal, lentRefusal, worldRefusal}
 use Rattle.caller.proofs.Lent.{lent}
 use borrow.Author.Needs.{needs}
 use Rattle.caller.proofs.judges.Statement.{statement}
@@ -25,7 +25,7 @@ world-refused-requires : tie.Need-world-refused-requires
 world-refused-requires c κs = search needs
 
 expect-requires : tie.Need-expect-requires
-unfolding lentRefusal worldRefusal isSound clauses
+unfolding memoryRefusal lentRefusal worldRefusal isSound clauses
 expect-requires c κs =
     let prepared = c .before .before .before .before .prepared-state in
     eq-eqb _ 0 (c .world-refused .ensures ∙ ap (λ (s : State). worldRefusal 1 (lent s)) (prepared .ensures))
@@ -43,7 +43,7 @@ world-refused-requires-2 : tie.Need-world-refused-requires-2
 world-refused-requires-2 c κs = search needs
 
 expect-requires-2 : tie.Need-expect-requires-2
-unfolding lentRefusal worldRefusal
+unfolding memoryRefusal lentRefusal worldRefusal
 expect-requires-2 c κs = eq-eqb _ 1 (c .world-refused2 .ensures)
 
 returns : tie.Need-returns

@@ -1,5 +1,5 @@
 -- `caller::prepares` meets its contract.
-use Rattle.rules.specs.Call.{Prepared, lentRefusal, prepareOutcome}
+use Rattle.rules.specs.Call.{Prepared, memoryRefusal, lentRefusal, prepareOutcome}
 use mathlib.Core.Path.{ap}
 use borrow.Author.Tests.{eq-eqb}
 use borrow.Author.Needs.{needs}
@@ -19,7 +19,7 @@ prepare-requires : tie.Need-prepare-requires
 prepare-requires c κs = search needs
 
 expect-requires : tie.Need-expect-requires
-unfolding lentRefusal prepareOutcome
+unfolding memoryRefusal lentRefusal prepareOutcome
 expect-requires c κs =
     let good = c .before .before .before .before .prepare in
     eq-eqb _ 0 (ap (λ (x : Prepared). x .number) (good .ensures))
@@ -37,7 +37,7 @@ prepare-requires-2 : tie.Need-prepare-requires-2
 prepare-requires-2 c κs = search needs
 
 expect-requires-2 : tie.Need-expect-requires-2
-unfolding lentRefusal prepareOutcome
+unfolding memoryRefusal lentRefusal prepareOutcome
 expect-requires-2 c κs =
     let bad = c .before .before .before .before .prepare2 in
     eq-eqb _ 1 (ap (λ (x : Prepared). x .number) (bad .ensures))

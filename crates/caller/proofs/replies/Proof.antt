@@ -4,7 +4,7 @@ use Rattle.rules.specs.declared.Event.{Event}
 use Rattle.rules.specs.declared.State.{State}
 use Rattle.rules.specs.Event.{react, step}
 use Rattle.rules.specs.Sound.{clauses, isSound}
-use Rattle.rules.specs.Call.{Replied, lentRefusal, worldRefusal, eventOutcome}
+use Rattle.rules.specs.Call.{Replied, memoryRefusal, lentRefusal, worldRefusal, eventOutcome}
 use mathlib.Core.Path.{ap, _∙_}
 use borrow.Author.Tests.{eq-eqb}
 use Rattle.caller.proofs.Lent.{lent}
@@ -32,14 +32,14 @@ event-requires : tie.Need-event-requires
 event-requires c κs = search needs
 
 expect-requires : tie.Need-expect-requires
-unfolding lentRefusal worldRefusal eventOutcome isSound clauses step react
+unfolding memoryRefusal lentRefusal worldRefusal eventOutcome isSound clauses step react
 expect-requires c κs =
     let at-event = c .before .before .before .before in
     let prepared = at-event .before .before .before .before .prepared-state in
     eq-eqb _ 0 (ap (λ (x : Replied). x .number) (at-event .event .ensures ∙ ap replied (prepared .ensures)))
 
 expect-requires-2 : tie.Need-expect-requires-2
-unfolding lentRefusal worldRefusal eventOutcome isSound clauses step react
+unfolding memoryRefusal lentRefusal worldRefusal eventOutcome isSound clauses step react
 expect-requires-2 c κs =
     let at-event = c .before .before .before .before .before .before in
     let prepared = at-event .before .before .before .before .prepared-state in
@@ -58,13 +58,13 @@ event-requires-2 : tie.Need-event-requires-2
 event-requires-2 c κs = search needs
 
 expect-requires-3 : tie.Need-expect-requires-3
-unfolding lentRefusal worldRefusal eventOutcome
+unfolding memoryRefusal lentRefusal worldRefusal eventOutcome
 expect-requires-3 c κs =
     let refused = c .before .before .before .before .event2 in
     eq-eqb _ 1 (ap (λ (x : Replied). x .number) (refused .ensures))
 
 expect-requires-4 : tie.Need-expect-requires-4
-unfolding lentRefusal worldRefusal eventOutcome
+unfolding memoryRefusal lentRefusal worldRefusal eventOutcome
 expect-requires-4 c κs =
     let refused = c .before .before .before .before .before .before .event2 in
     eq-eqb _ 2 (ap (λ (x : Replied). x .answer) (refused .ensures))

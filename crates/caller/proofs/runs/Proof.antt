@@ -4,7 +4,7 @@ use Rattle.rules.specs.declared.State.{State}
 use Rattle.rules.specs.Trace.{Progress, eventAt, recordRefusal, turn}
 use Rattle.rules.specs.Event.{react, step}
 use Rattle.rules.specs.Sound.{clauses, isSound}
-use Rattle.rules.specs.Call.{lentRefusal, worldRefusal, runOutcome}
+use Rattle.rules.specs.Call.{memoryRefusal, lentRefusal, worldRefusal, runOutcome}
 use mathlib.Core.Path.{ap, _∙_}
 use borrow.Author.Tests.{eq-eqb}
 use Rattle.caller.proofs.Lent.{lent}
@@ -38,21 +38,21 @@ run-requires : tie.Need-run-requires
 run-requires c κs = search needs
 
 expect-requires : tie.Need-expect-requires
-unfolding lentRefusal worldRefusal runOutcome isSound clauses step react turn recordRefusal eventAt
+unfolding memoryRefusal lentRefusal worldRefusal runOutcome isSound clauses step react turn recordRefusal eventAt
 expect-requires c κs =
     let at-run = c .before .before .before .before .before in
     let prepared = at-run .before .before .before .before .before .before .prepared-state in
     eq-eqb _ 0 (ap (λ (x : Progress). x .number) (at-run .run .ensures ∙ ap ran (prepared .ensures)))
 
 expect-requires-2 : tie.Need-expect-requires-2
-unfolding lentRefusal worldRefusal runOutcome isSound clauses step react turn recordRefusal eventAt
+unfolding memoryRefusal lentRefusal worldRefusal runOutcome isSound clauses step react turn recordRefusal eventAt
 expect-requires-2 c κs =
     let at-run = c .before .before .before .before .before .before .before in
     let prepared = at-run .before .before .before .before .before .before .prepared-state in
     eq-eqb _ 1 (ap (λ (x : Progress). x .done) (at-run .run .ensures ∙ ap ran (prepared .ensures)))
 
 expect-requires-3 : tie.Need-expect-requires-3
-unfolding lentRefusal worldRefusal runOutcome isSound clauses step react turn recordRefusal eventAt
+unfolding memoryRefusal lentRefusal worldRefusal runOutcome isSound clauses step react turn recordRefusal eventAt
 expect-requires-3 c κs =
     let at-run = c .before .before .before .before .before .before .before .before .before in
     let prepared = at-run .before .before .before .before .before .before .prepared-state in
@@ -77,13 +77,13 @@ run-requires-2 : tie.Need-run-requires-2
 run-requires-2 c κs = search needs
 
 expect-requires-4 : tie.Need-expect-requires-4
-unfolding lentRefusal worldRefusal runOutcome
+unfolding memoryRefusal lentRefusal worldRefusal runOutcome
 expect-requires-4 c κs =
     let refused = c .before .before .before .before .before .run2 in
     eq-eqb _ 1 (ap (λ (x : Progress). x .number) (refused .ensures))
 
 expect-requires-5 : tie.Need-expect-requires-5
-unfolding lentRefusal worldRefusal runOutcome
+unfolding memoryRefusal lentRefusal worldRefusal runOutcome
 expect-requires-5 c κs =
     let refused = c .before .before .before .before .before .before .before .run2 in
     eq-eqb _ 0 (ap (λ (x : Progress). x .done) (refused .ensures))

@@ -12,10 +12,7 @@ returns-3 : tie.Need-returns-3
 returns-3 c = rw (c .before .before .if1 .left, c .before .if2 .left, c .if3 .taken)
 
 returns-4 : tie.Need-returns-4
-returns-4 c = rw (c .before .before .before .if1 .left, c .before .before .if2 .left, c .before .if3 .left, c .if4 .taken)
-
-returns-5 : tie.Need-returns-5
-returns-5 c = rw (c .before .before .before .if1 .left, c .before .before .if2 .left, c .before .if3 .left, c .if4 .left)
+returns-4 c = rw (c .before .before .if1 .left, c .before .if2 .left, c .if3 .left)
 
 pub first-wrong-spec : {M : Type 1} → statement M
-first-wrong-spec = tie.close (tie.spec returns returns-2 returns-3 returns-4 returns-5)
+first-wrong-spec = tie.close (tie.spec returns returns-2 returns-3 returns-4)

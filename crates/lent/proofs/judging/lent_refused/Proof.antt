@@ -1,35 +1,46 @@
 -- `lent::judging::lent_refused` meets its contract.
 use native.Mathlib.Omega.{arith}
 use Rattle.rules.proofs.Widths.{row-widths}
-use Rattle.lent.proofs.Lending.{lent-wrong}
+use Rattle.lent.proofs.Lending.{lent-memory, lent-latch, lent-whole}
 use borrow.Author.Needs.{needs}
 use Rattle.lent.proofs.judging.lent_refused.Statement.{statement}
 use Rattle.lent.proofs.judging.lent_refused.Tie as tie
 
-row-of-requires : tie.Need-row-of-requires
-row-of-requires c κs = search needs
-
-is-device-requires : tie.Need-is-device-requires
-is-device-requires c κs = search needs
-
-add-first-wrong : tie.Need-add-first-wrong
-add-first-wrong c =
-    let given = c .before .before .before .before .before .before .args in
-    let row = c .before .before .row-of in
-    omega (arith, row-widths (given .device) (row .result) (row .ensures) .pageMost)
-
-first-wrong-requires : tie.Need-first-wrong-requires
-first-wrong-requires c κs = search needs
+memory-refused-requires : tie.Need-memory-refused-requires
+memory-refused-requires c κs = search needs
 
 returns : tie.Need-returns
 returns c =
+    let given = c .before .before .before .before .before .args in
+    let judged = c .before .memory-refused in
+    lent-memory (given .device) (given .cells .now) (given .identification .now) (given .latch .now) (judged .result) (judged .ensures) (c .if1 .taken)
+
+row-of-requires : tie.Need-row-of-requires
+row-of-requires c κs = search needs
+
+add-if2 : tie.Need-add-if2
+add-if2 c =
     let given = c .before .before .before .before .before .before .before .args in
-    let row = c .before .before .before .row-of in
-    let known = c .before .before .is-device in
-    lent-wrong (given .device) (row .result) (known .result) (row .ensures) (known .ensures) (given .cells .now) (given .identification .now)
-    (given .latch .now) (c .first-wrong .result) (c .first-wrong .ensures)
+    let row = c .before .row-of in
+    omega (arith, row-widths (given .device) (row .result) (row .ensures) .pageMost)
+
+returns-2 : tie.Need-returns-2
+returns-2 c =
+    let given = c .before .before .before .before .before .before .before .before .args in
+    let judged = c .before .before .before .before .memory-refused in
+    let row = c .before .before .row-of in
+    lent-whole (given .device) (given .cells .now) (given .identification .now) (given .latch .now) (judged .result) (judged .ensures)
+    (row .result) (row .ensures) (c .before .before .before .if1 .left) (c .if2 .taken)
+
+returns-3 : tie.Need-returns-3
+returns-3 c =
+    let given = c .before .before .before .before .before .before .before .before .args in
+    let judged = c .before .before .before .before .memory-refused in
+    let row = c .before .before .row-of in
+    lent-latch (given .device) (given .cells .now) (given .identification .now) (given .latch .now) (judged .result) (judged .ensures)
+    (row .result) (row .ensures) (c .before .before .before .if1 .left) (c .if2 .left)
 
 pub lent-refused-spec : {M : Type 1} → statement M
 lent-refused-spec =
     tie.close
-    (tie.spec row-of-requires is-device-requires add-first-wrong first-wrong-requires returns)
+    (tie.spec memory-refused-requires returns row-of-requires add-if2 returns-2 returns-3)
