@@ -49,7 +49,7 @@ enum {
     M95_REFUSED_LATCH = 4,          /* latch of a wrong length */
     M95_REFUSED_STATE = 5,          /* the state's bytes are no state or not a sound one, or a mark of the latch is neither 0 nor 1 */
     M95_REFUSED_CUT = 6,            /* a record is cut short */
-    M95_REFUSED_KIND = 7,           /* a record's, or an event's, kind is unknown */
+    M95_REFUSED_KIND = 7,           /* a record's or an event's kind, or a view's region, is unknown */
     M95_REFUSED_LENGTH = 8,         /* a record's length is not its kind's */
     M95_REFUSED_PIN = 9,            /* a pin byte is above 9 */
     M95_REFUSED_ANSWERS = 10,       /* no answer byte is left */
@@ -69,6 +69,9 @@ enum { M95_C = 0, M95_D = 2, M95_S = 4, M95_HOLD = 6, M95_W = 8 };
 
 /* How an event or a record answers: the level of Q. */
 enum { M95_LOW = 0, M95_HIGH = 1, M95_Z = 2 };
+
+/* What can be looked at by m95_view. */
+enum { M95_REGION_CELLS = 0, M95_REGION_IDENTIFICATION = 1 };
 
 /*
  * A number that changes when the bytes of a state change their meaning. A state saved under another number must not be lent: its bytes may
@@ -147,11 +150,16 @@ size_t m95_status_byte(const uint8_t *state, size_t state_length, size_t *status
  */
 size_t m95_stored(const uint8_t *state, size_t state_length, size_t *status, size_t *lock);
 
-/* The page of cells that holds an address, by its start in `cells` and its length: 1, 2, 13 (start and length 0), or 0. */
-size_t m95_cell_page(size_t device, const uint8_t *cells, size_t cells_length, size_t address, size_t *start, size_t *length);
-
-/* The identification page is its whole buffer, so only its length is told: 1, 3 (length 0), or 0. */
-size_t m95_identification_page(size_t device, const uint8_t *identification, size_t identification_length, size_t *length);
+/*
+ * A view of a region: where its part starts, and how long it is. M95_REGION_CELLS shows the page that holds the address, which is at
+ * cells + start; M95_REGION_IDENTIFICATION shows all of the identification page, whatever the address, which is at identification + start,
+ * and that start is 0. Both buffers are judged whatever the region: 1, 2, 3; then 7 for a number that is no region's; then, for the cells
+ * alone, 13 for an address past them; or 0. Refused, start and length are 0.
+ */
+size_t m95_view(size_t device, size_t region,
+                const uint8_t *cells, size_t cells_length,
+                const uint8_t *identification, size_t identification_length,
+                size_t address, size_t *start, size_t *length);
 
 #ifdef __cplusplus
 }

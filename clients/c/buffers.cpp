@@ -35,6 +35,11 @@ struct Chip {
                            latch.data(), latch.size());
     }
 
+    std::size_t view(std::size_t region) const {
+        std::size_t start = 9, length = 9;
+        return m95_view(device, region, cells.data(), cells.size(), identification.data(), identification.size(), 0, &start, &length);
+    }
+
     std::size_t run(const Bytes &trace, Bytes &answers, std::size_t &done) {
         std::size_t taken = 0;
         return m95_run(device, state.data(), state.size(), cells.data(), cells.size(), identification.data(), identification.size(),
@@ -87,6 +92,7 @@ void write_and_read(Chip &chip) {
 // Vectors of no bytes, one at a time and then all of them.
 void lend_nothing(const Chip &good) {
     const std::size_t numbers[] = {M95_REFUSED_STATE, M95_REFUSED_CELLS, M95_REFUSED_IDENTIFICATION, M95_REFUSED_LATCH, M95_REFUSED_CELLS};
+    const std::size_t views[] = {M95_DONE, M95_REFUSED_CELLS, M95_REFUSED_IDENTIFICATION, M95_DONE, M95_REFUSED_CELLS};
     for (std::size_t none = 0; none <= 4; none++) {
         Chip chip = good;
         Bytes *const buffers[] = {&chip.state, &chip.cells, &chip.identification, &chip.latch};
@@ -96,6 +102,8 @@ void lend_nothing(const Chip &good) {
             }
         }
         expect(chip.refusal() == numbers[none] && chip.prepare() == numbers[none], "an empty vector is refused", chip.device);
+        expect(chip.view(M95_REGION_CELLS) == views[none], "a view of the cells judges both vectors", chip.device);
+        expect(chip.view(M95_REGION_IDENTIFICATION) == views[none], "and so does one of the identification page", chip.device);
     }
 }
 
@@ -106,8 +114,6 @@ void lend_one(std::size_t device) {
     expect(m95_load(device, none.data(), none.size(), 0, 0) == M95_REFUSED_STATE, "no room to load into", device);
     expect(m95_stored(none.data(), none.size(), &first, &second) == M95_REFUSED_STATE && first + second == 0, "no state stores", device);
     expect(m95_status_byte(none.data(), none.size(), &first) == M95_REFUSED_STATE && first == 0, "no state has a status", device);
-    expect(m95_cell_page(device, none.data(), none.size(), 0, &first, &second) == M95_REFUSED_CELLS, "no cells have a page", device);
-    expect(m95_identification_page(device, none.data(), none.size(), &first) == M95_REFUSED_IDENTIFICATION, "no page", device);
 }
 
 void traces_of_nothing(Chip &chip) {

@@ -63,6 +63,17 @@ static void refused_buffers(void) {
  */
 enum { NULLS = 6 };
 
+static void null_views(size_t device, int no_cells, int no_page) {
+    size_t number = no_cells ? M95_REFUSED_CELLS : no_page ? M95_REFUSED_IDENTIFICATION : M95_DONE;
+    for (size_t region = M95_REGION_CELLS; region <= M95_REGION_IDENTIFICATION; region++) {
+        size_t start = 9, length = 9;
+        expect(m95_view(device, region, no_cells ? NULL : chip.cells, no_cells ? 0 : m95_cells(device), no_page ? NULL : chip.identification,
+                        no_page ? 0 : m95_page(device), 0, &start, &length) == number,
+               "a view with NULL", region);
+        expect(start == 0 && length == (number == M95_DONE ? m95_page(device) : 0), "what it shows", region);
+    }
+}
+
 static void null_buffers(size_t device) {
     static const size_t numbers[] = {M95_REFUSED_STATE, M95_REFUSED_CELLS, M95_REFUSED_IDENTIFICATION, M95_REFUSED_LATCH,
                                      M95_DONE,          M95_REFUSED_ANSWERS, M95_REFUSED_CELLS};
@@ -85,6 +96,7 @@ static void null_buffers(size_t device) {
         if (number != M95_DONE) {
             expect(m95_prepare(device, NOT_ALL) == number, "preparing with NULL", none);
         }
+        null_views(device, none == 1 || none == NULLS, none == 2 || none == NULLS);
         expect(is_as_before(), "NULL leaves the others as they were", none);
     }
 }
@@ -94,10 +106,6 @@ static void nulls(void) {
     size_t answer = 9, first = 9, second = 9;
     for (size_t device = 1; device <= 4; device++) {
         null_buffers(device);
-        expect(m95_cell_page(device, NULL, 0, 0, &first, &second) == M95_REFUSED_CELLS, "cell page of NULL", device);
-        expect(first == 0 && second == 0, "no part of it", device);
-        second = 9;
-        expect(m95_identification_page(device, NULL, 0, &second) == M95_REFUSED_IDENTIFICATION && second == 0, "page of NULL", device);
         expect(m95_load(device, NULL, 0, 0, 0) == M95_REFUSED_STATE, "loading into NULL", device);
     }
     expect(m95_status_byte(NULL, 0, &answer) == M95_REFUSED_STATE && answer == 0, "status of NULL", answer);
@@ -108,8 +116,7 @@ static void nulls(void) {
     expect(m95_load(0, NULL, 0, 0, 0) == M95_REFUSED_DEVICE, "loading no device into NULL", 0);
     expect(m95_event(0, NOTHING, M95_WAIT, 0, &answer) == M95_REFUSED_DEVICE && answer == M95_Z, "an event of nothing", answer);
     expect(m95_run(0, NOTHING, NULL, 0, NULL, 0, 1, &first, &second) == M95_REFUSED_DEVICE, "a trace of nothing", 0);
-    expect(m95_cell_page(0, NULL, 0, 0, &first, &second) == M95_REFUSED_DEVICE, "a cell page of nothing", 0);
-    expect(m95_identification_page(0, NULL, 0, &second) == M95_REFUSED_DEVICE, "an identification page of nothing", 0);
+    expect(m95_view(0, M95_REGION_CELLS, NULL, 0, NULL, 0, 0, &first, &second) == M95_REFUSED_DEVICE, "a view of nothing", 0);
 }
 
 /* Every value of every byte of a state, and many states of chance: a state or 5, and then nothing changes. */
@@ -284,21 +291,34 @@ static void traces(void) {
     RUN(8, 9, M95_REFUSED_POWER, 5, 1, 3, 0, 1, 0, 5, 2, 0, 3, 0);
 }
 
-static void pages(void) {
-    size_t start = 9, length = 9;
-    expect(m95_cell_page(1, chip.cells, 512, 40, &start, &length) == M95_DONE, "a cell page", 40);
-    expect(start == 32 && length == 16, "where it is", start);
-    expect(m95_cell_page(4, chip.cells, MOST_CELLS, MOST_CELLS - 1, &start, &length) == M95_DONE, "the last cell page", 4);
-    expect(start == MOST_CELLS - MOST_PAGE && length == MOST_PAGE, "where it is", start);
-    expect(m95_cell_page(1, chip.cells, 512, 512, &start, &length) == M95_REFUSED_ADDRESS, "past the cells", 512);
-    expect(start == 0 && length == 0, "no part of them", start);
-    expect(m95_cell_page(1, chip.cells, 511, 512, &start, &length) == M95_REFUSED_CELLS, "a cell page of wrong cells", 511);
-    expect(m95_cell_page(9, chip.cells, 511, 512, &start, &length) == M95_REFUSED_DEVICE, "a cell page of no device", 9);
-    expect(m95_identification_page(1, chip.identification, 16, &length) == M95_DONE, "the identification page", 16);
-    expect(length == 16, "its length", length);
-    expect(m95_identification_page(1, chip.identification, 17, &length) == M95_REFUSED_IDENTIFICATION, "one of a wrong length", 17);
-    expect(length == 0, "no part of it", length);
-    expect(m95_identification_page(5, chip.identification, 17, &length) == M95_REFUSED_DEVICE, "one of no device", 5);
+/* A view of the chip's buffers, taken to be so long: its number, and where the part is. */
+static void view(size_t device, size_t region, size_t cells, size_t page, size_t address, size_t number, size_t start, size_t length) {
+    size_t first = 9, second = 9;
+    expect(m95_view(device, region, chip.cells, cells, chip.identification, page, address, &first, &second) == number, "the number of a view", number);
+    expect(first == start && second == length, "where its part is", start);
+}
+
+static void views(void) {
+    enum { CELLS = M95_REGION_CELLS, PAGE = M95_REGION_IDENTIFICATION, NONE = 2 };
+    view(1, CELLS, 512, 16, 40, M95_DONE, 32, 16);
+    view(4, CELLS, MOST_CELLS, MOST_PAGE, MOST_CELLS - 1, M95_DONE, MOST_CELLS - MOST_PAGE, MOST_PAGE);
+    view(1, PAGE, 512, 16, 40, M95_DONE, 0, 16);
+    view(4, PAGE, MOST_CELLS, MOST_PAGE, SIZE_MAX, M95_DONE, 0, MOST_PAGE);
+    view(1, CELLS, 512, 16, 512, M95_REFUSED_ADDRESS, 0, 0);
+    /* The buffer that is not asked for is wrong alone. */
+    view(1, CELLS, 512, 17, 40, M95_REFUSED_IDENTIFICATION, 0, 0);
+    view(1, PAGE, 511, 16, 40, M95_REFUSED_CELLS, 0, 0);
+    /* Each number with all that come after it: 1, 2, 3, then 7 for a region that is none, then 13. */
+    for (size_t region = CELLS; region <= NONE; region++) {
+        view(9, region, 511, 17, 512, M95_REFUSED_DEVICE, 0, 0);
+        view(257, region, 512, 16, 40, M95_REFUSED_DEVICE, 0, 0);
+        view(1, region, 511, 17, 512, M95_REFUSED_CELLS, 0, 0);
+        view(1, region, 512, 17, 512, M95_REFUSED_IDENTIFICATION, 0, 0);
+    }
+    view(1, NONE, 512, 16, 512, M95_REFUSED_KIND, 0, 0);
+    view(1, NONE, 512, 16, 40, M95_REFUSED_KIND, 0, 0);
+    view(1, SIZE_MAX, 512, 16, 40, M95_REFUSED_KIND, 0, 0);
+    view(1, 256, 512, 16, 40, M95_REFUSED_KIND, 0, 0);
 }
 
 static void statuses(void) {
@@ -322,7 +342,7 @@ int main(void) {
     read_by_trace();
     events();
     traces();
-    pages();
+    views();
     statuses();
     versions();
     loading();

@@ -39,14 +39,21 @@ enum way {
     STATUS_OF_NO_STATE,
     STATUS_WITHOUT_WEL,
     STATUS_OF_NULL,
-    PAGE_STARTS_ONE_LATER,
+    VIEW_STARTS_ONE_LATER,
+    VIEW_ONE_SHORT,
+    OTHER_REGION_VIEWED,
+    BUFFER_NOT_ASKED_FOR_UNJUDGED,
+    VIEWED_PAGE_JUDGED_BEFORE_CELLS,
+    ADDRESS_ASKED_OF_THE_PAGE,
     PAST_THE_CELLS_AS_WRONG_LENGTH,
-    REFUSED_PAGE_SHOWN,
-    CELL_PAGE_OF_NULL,
-    IDENTIFICATION_PAGE_ONE_SHORT,
-    IDENTIFICATION_LENGTH_AS_CELLS,
-    REFUSED_IDENTIFICATION_SHOWN,
-    IDENTIFICATION_PAGE_OF_NULL,
+    REGION_TWO_TAKEN,
+    LARGE_REGION_TAKEN,
+    REGION_JUDGED_BEFORE_LENGTHS,
+    ADDRESS_JUDGED_BEFORE_REGION,
+    REFUSED_VIEW_SHOWN,
+    REFUSED_VIEW_STARTS,
+    VIEW_OF_NULL_CELLS,
+    VIEW_OF_NULL_PAGE,
     OTHER_VERSION,
     LOADS_A_LARGE_NUMBER,
     LOADS_SRWD_ON_DEVICE_1,
@@ -92,6 +99,8 @@ static enum way way(void) {
         constant uint8_t *identification, size_t identification_length, constant uint8_t *latch, size_t latch_length
 #define WRITTEN TAKEN()
 #define ONLY_READ TAKEN(const)
+#define VIEWED cells, cells_length, identification, identification_length
+#define PAGES const uint8_t *cells, size_t cells_length, const uint8_t *identification, size_t identification_length
 
 size_t __real_m95_version(void);
 size_t __real_m95_cells(size_t device);
@@ -104,8 +113,7 @@ size_t __real_m95_run(size_t device, WRITTEN, const uint8_t *trace, size_t trace
                       size_t *taken, size_t *done);
 size_t __real_m95_status_byte(const uint8_t *state, size_t state_length, size_t *status);
 size_t __real_m95_stored(const uint8_t *state, size_t state_length, size_t *status, size_t *lock);
-size_t __real_m95_cell_page(size_t device, const uint8_t *cells, size_t cells_length, size_t address, size_t *start, size_t *length);
-size_t __real_m95_identification_page(size_t device, const uint8_t *identification, size_t identification_length, size_t *length);
+size_t __real_m95_view(size_t device, size_t region, PAGES, size_t address, size_t *start, size_t *length);
 
 size_t __wrap_m95_version(void) { return __real_m95_version() + (way() == OTHER_VERSION); }
 
@@ -204,32 +212,51 @@ size_t __wrap_m95_status_byte(const uint8_t *state, size_t state_length, size_t 
     return way() == STATUS_OF_NO_STATE && number == M95_REFUSED_STATE ? M95_DONE : number;
 }
 
-size_t __wrap_m95_cell_page(size_t device, const uint8_t *cells, size_t cells_length, size_t address, size_t *start, size_t *length) {
-    size_t number = __real_m95_cell_page(device, cells, cells_length, address, start, length);
-    if (way() == PAGE_STARTS_ONE_LATER && number == M95_DONE) {
-        *start += 1;
+/* Which region is asked for instead. */
+static size_t region_for(size_t region) {
+    if (way() == OTHER_REGION_VIEWED && region <= M95_REGION_IDENTIFICATION) {
+        return M95_REGION_IDENTIFICATION - region;
     }
-    if (way() == REFUSED_PAGE_SHOWN && number != M95_DONE) {
-        *length = 1;
+    if (way() == LARGE_REGION_TAKEN) {
+        return region & 255;
     }
-    if (way() == CELL_PAGE_OF_NULL && cells == NULL) {
-        return M95_DONE;
+    return way() == REGION_TWO_TAKEN && region == 2 ? M95_REGION_IDENTIFICATION : region;
+}
+
+/* The number of a view, made wrong. */
+static size_t view_number(size_t device, size_t region, size_t page, size_t address, size_t number) {
+    int is_known = number != M95_REFUSED_DEVICE, is_past = address >= __real_m95_cells(device);
+    if (way() == VIEWED_PAGE_JUDGED_BEFORE_CELLS && is_known && page != __real_m95_page(device)) {
+        return M95_REFUSED_IDENTIFICATION;
+    }
+    if (way() == ADDRESS_ASKED_OF_THE_PAGE && number == M95_DONE && is_past) {
+        return M95_REFUSED_ADDRESS;
+    }
+    if (way() == REGION_JUDGED_BEFORE_LENGTHS && is_known && region > M95_REGION_IDENTIFICATION) {
+        return M95_REFUSED_KIND;
+    }
+    if (way() == ADDRESS_JUDGED_BEFORE_REGION && number == M95_REFUSED_KIND && is_past) {
+        return M95_REFUSED_ADDRESS;
     }
     return way() == PAST_THE_CELLS_AS_WRONG_LENGTH && number == M95_REFUSED_ADDRESS ? M95_REFUSED_CELLS : number;
 }
 
-size_t __wrap_m95_identification_page(size_t device, const uint8_t *identification, size_t identification_length, size_t *length) {
-    size_t number = __real_m95_identification_page(device, identification, identification_length, length);
-    if (way() == IDENTIFICATION_PAGE_ONE_SHORT && number == M95_DONE) {
-        *length -= 1;
+size_t __wrap_m95_view(size_t device, size_t region, PAGES, size_t address, size_t *start, size_t *length) {
+    /* A buffer that is not asked for is not read, so that its length can be said to be right. */
+    if (way() == BUFFER_NOT_ASKED_FOR_UNJUDGED && region == M95_REGION_IDENTIFICATION) {
+        cells_length = __real_m95_cells(device);
     }
-    if (way() == REFUSED_IDENTIFICATION_SHOWN && number != M95_DONE) {
-        *length = 1;
+    if (way() == BUFFER_NOT_ASKED_FOR_UNJUDGED && region == M95_REGION_CELLS) {
+        identification_length = __real_m95_page(device);
     }
-    if (way() == IDENTIFICATION_PAGE_OF_NULL && identification == NULL) {
+    size_t number = __real_m95_view(device, region_for(region), VIEWED, address, start, length);
+    *start += (way() == VIEW_STARTS_ONE_LATER && number == M95_DONE) || (way() == REFUSED_VIEW_STARTS && number != M95_DONE);
+    *length += way() == REFUSED_VIEW_SHOWN && number != M95_DONE;
+    *length -= way() == VIEW_ONE_SHORT && number == M95_DONE;
+    if ((way() == VIEW_OF_NULL_CELLS && cells == NULL) || (way() == VIEW_OF_NULL_PAGE && identification == NULL)) {
         return M95_DONE;
     }
-    return way() == IDENTIFICATION_LENGTH_AS_CELLS && number == M95_REFUSED_IDENTIFICATION ? M95_REFUSED_CELLS : number;
+    return view_number(device, region, identification_length, address, number);
 }
 
 /* Loads with a status or a lock that is made to fit where a way takes what is to be refused. */

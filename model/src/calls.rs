@@ -1,5 +1,5 @@
-//! The calls of the library (document 01, "Traces" and "Numbers given back"). A refused call leaves what the table
-//! of numbers says.
+//! The calls of the library (document 01, "Traces" and "Numbers given back"; document 02, W-201). A refused call leaves
+//! what the table of numbers says.
 
 use crate::device::{device, Device};
 use crate::number::Number;
@@ -157,28 +157,51 @@ pub(crate) fn judge_record(
     Ok(record)
 }
 
-/// The page of cells that holds `address`, lent and not copied; empty when refused.
-pub fn cell_page(number: u8, cells: &[u8], address: usize) -> (Number, &[u8]) {
-    let Some(row) = device(number) else {
-        return (Number::Device, &[]);
-    };
-    if cells.len() != row.cells {
-        return (Number::Cells, &[]);
-    }
-    if address >= row.cells {
-        return (Number::Address, &[]);
-    }
-    let start = address & !(row.page - 1);
-    (Number::Done, &cells[start..start + row.page])
+/// The lent buffer that a view shows a page of.
+#[derive(Clone, Copy, Debug, PartialEq, Eq)]
+pub enum Region {
+    Cells,
+    Identification,
 }
 
-/// The identification page, lent and not copied; empty when refused.
-pub fn identification_page(number: u8, identification: &[u8]) -> (Number, &[u8]) {
-    match device(number) {
-        None => (Number::Device, &[]),
-        Some(row) if identification.len() != row.page => (Number::Identification, &[]),
-        Some(_) => (Number::Done, identification),
+/// Shows a page of one region, lent and not copied: the page of cells that holds `address`, or the identification
+/// page, which needs no address and looks at none. Both slices are judged whichever is shown, so a caller that mixes
+/// them up learns of it from either region. A refused view shows an empty part.
+pub fn view<'a>(
+    number: u8,
+    region: Region,
+    cells: &'a [u8],
+    identification: &'a [u8],
+    address: usize,
+) -> (Number, &'a [u8]) {
+    let row = match judge_stored(number, cells, identification) {
+        Ok(row) => row,
+        Err(number) => return (number, &[]),
+    };
+    match region {
+        Region::Identification => (Number::Done, identification),
+        Region::Cells if address >= row.cells => (Number::Address, &[]),
+        Region::Cells => {
+            let start = address & !(row.page - 1);
+            (Number::Done, &cells[start..start + row.page])
+        }
     }
+}
+
+/// Numbers 1 to 3, in their order: what every call that is lent a chip's bytes judges first.
+fn judge_stored(
+    number: u8,
+    cells: &[u8],
+    identification: &[u8],
+) -> Result<&'static Device, Number> {
+    let row = device(number).ok_or(Number::Device)?;
+    if cells.len() != row.cells {
+        return Err(Number::Cells);
+    }
+    if identification.len() != row.page {
+        return Err(Number::Identification);
+    }
+    Ok(row)
 }
 
 /// Numbers 1 to 4, in their order.
@@ -188,13 +211,7 @@ fn judge_lent(
     identification: &[u8],
     latch: &[u8],
 ) -> Result<&'static Device, Number> {
-    let row = device(number).ok_or(Number::Device)?;
-    if cells.len() != row.cells {
-        return Err(Number::Cells);
-    }
-    if identification.len() != row.page {
-        return Err(Number::Identification);
-    }
+    let row = judge_stored(number, cells, identification)?;
     if latch.len() != 2 * row.page {
         return Err(Number::Latch);
     }

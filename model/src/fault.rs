@@ -1,5 +1,5 @@
-//! Named ways to be wrong. `mistakes` makes them; `sharpness` uses them to show that the generated traces would notice
-//! each one.
+//! Named ways to be wrong. `mistakes` makes them; `sharpness` uses them to show that the generated traces, or else the
+//! inputs of the bench program or the chosen views, would notice each one.
 
 /// Declares the enum, the list of all faults and their meanings from one table.
 macro_rules! faults {
@@ -18,6 +18,11 @@ macro_rules! faults {
             /// Whether the mistake is the bench program's and not the library's.
             pub fn is_of_bench(self) -> bool {
                 format!("{self:?}").starts_with("Bench")
+            }
+
+            /// Whether the mistake is that of a view, which no trace asks for.
+            pub fn is_of_view(self) -> bool {
+                format!("{self:?}").starts_with("View")
             }
 
             /// What the mistaken model does.
@@ -209,6 +214,20 @@ faults! {
     StoredBitsWithWel = "the stored bits are given out with WEL and WIP",
     StoredBitsAreNew = "the new bits of a running status cycle are given out as stored",
     StoredLockIsNew = "the lock of a running lock cycle is given out as stored",
+    // A view of a page.
+    ViewUnaskedUnchecked = "a view does not judge the slice that was not asked for",
+    ViewThreeBeforeTwo = "3 comes before 2 in a view",
+    ViewAskedJudgedFirst = "a view judges the slice that was asked for before the other",
+    ViewThirteenBeforeTwo = "13 comes before 2 and 3 in a view",
+    ViewThirteenBeforeThree = "13 comes before 3 in a view",
+    ViewRefusalShowsPart = "a refused view shows the slice that was asked for",
+    ViewRegionsSwapped = "a view shows the identification page for cells and a page of cells for it",
+    ViewAddressAlwaysJudged = "an address past the cells gives 13 for the identification page too",
+    ViewCountIsAddress = "the number of cells itself is taken for an address in a view",
+    ViewAddressWraps = "a view past the last cell goes on at cell 0",
+    ViewStartsAtAddress = "a view of cells starts at the address",
+    ViewShowsAllCells = "a view of cells shows all of them",
+    ViewIdentificationFromAddress = "a view of the identification page starts at the address's place in it",
     // Bench program.
     BenchStatusIsStored = "the bench program ends with the stored status bits",
     BenchRefusalIsBare = "the bench program prints only the end of a refused trace",

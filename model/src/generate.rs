@@ -4,6 +4,8 @@
 //! A profile repeats steps. Most steps bring the pins to rest, set up what a command needs (status bits, WEL, a
 //! running cycle), disturb that one command at one moment, and look at what came of it, so that traces get past the
 //! first bits of a selection.
+//!
+//! What no trace asks for, the bench program and a view, has inputs of its own here.
 
 mod commands;
 mod disturb;
@@ -12,6 +14,7 @@ mod made;
 mod malformed;
 mod random;
 mod steps;
+mod views;
 
 use crate::device::Device;
 use crate::trace::{append_record, Event};
@@ -20,6 +23,7 @@ pub use inputs::{bench_input, odd_bench_input, ODD_BENCH_INPUTS};
 pub use made::made_events;
 pub use malformed::{tail, TAILS};
 pub use random::Random;
+pub use views::{view_bytes, views, View};
 
 /// What a trace is about.
 #[derive(Clone, Copy, Debug, PartialEq, Eq)]

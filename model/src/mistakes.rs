@@ -9,6 +9,7 @@ mod edges;
 mod judging;
 mod records;
 mod sending;
+mod view;
 
 use crate::calls::{run_records, stored, Ran, IDENTIFICATION_CODE};
 use crate::device::Device;
@@ -17,6 +18,7 @@ use crate::rules::Chip;
 use crate::state::{status_byte, Cycle, Output, State};
 use crate::trace::Event;
 pub use bench::bench_wrongly;
+pub use view::view_wrongly;
 
 /// The mistakes of preparing: what the identification page starts with.
 pub(crate) fn prepared(fault: Fault, device: &Device, identification: &mut [u8]) {

@@ -3,9 +3,10 @@
 mod common;
 
 use common::Board;
+use m95_model::generate::{view_bytes, views, View};
 use m95_model::{
-    append_record, cell_page, event, identification_page, prepare, run, Event, Number, Output, Ran,
-    State,
+    append_record, device, event, prepare, run, view, Device, Event, Fault, Number, Output, Ran,
+    Region, State, DEVICES,
 };
 
 fn records(events: &[Event]) -> Vec<u8> {
@@ -274,24 +275,130 @@ fn number_0_at_the_limit_or_the_end() {
     assert_eq!(board.run(&trace, &mut answers, 3), ran(Number::Cut, 2, 12));
 }
 
+const NO_PART: &[u8] = &[];
+/// In the order of the numbers that judge their slices.
+const REGIONS: [Region; 2] = [Region::Cells, Region::Identification];
+
+/// Each device with cells and an identification page of its lengths.
+fn lent() -> impl Iterator<Item = (&'static Device, Vec<u8>, Vec<u8>)> {
+    let (cells, identification) = view_bytes();
+    DEVICES.iter().map(move |row| {
+        let cells = cells[..row.cells].to_vec();
+        (row, cells, identification[..row.page].to_vec())
+    })
+}
+
 #[test]
-fn pages_are_shown() {
-    let cells: Vec<u8> = (0..512usize).map(|index| (index / 2) as u8).collect();
-    assert_eq!(cell_page(1, &cells, 0), (Number::Done, &cells[..16]));
-    assert_eq!(cell_page(1, &cells, 15), (Number::Done, &cells[..16]));
-    assert_eq!(cell_page(1, &cells, 16), (Number::Done, &cells[16..32]));
-    assert_eq!(cell_page(1, &cells, 511), (Number::Done, &cells[496..]));
-    let none: &[u8] = &[];
-    assert_eq!(cell_page(1, &cells, 512), (Number::Address, none));
-    assert_eq!(cell_page(1, &cells[1..], 512), (Number::Cells, none));
-    assert_eq!(cell_page(0, &cells[1..], 512), (Number::Device, none));
-    assert_eq!(
-        identification_page(1, &cells[..16]),
-        (Number::Done, &cells[..16])
-    );
-    assert_eq!(
-        identification_page(1, &cells[..15]),
-        (Number::Identification, none)
-    );
-    assert_eq!(identification_page(7, &cells[..15]), (Number::Device, none));
+fn a_view_lends_the_page_of_an_address() {
+    for (row, cells, identification) in lent() {
+        let (page, last) = (row.page, row.cells - 1);
+        for address in [0, 1, page - 1, page, 5 * page + 3, last - page, last] {
+            let first = address / page * page;
+            let expected = &cells[first..first + page];
+            let (number, part) = view(row.number, Region::Cells, &cells, &identification, address);
+            assert_eq!(number, Number::Done);
+            assert!(std::ptr::eq(part, expected), "{} {address}", row.name);
+        }
+    }
+}
+
+#[test]
+fn a_view_lends_the_identification_bytes_at_any_address() {
+    for (row, cells, identification) in lent() {
+        for address in [0, 1, row.page, row.cells - 1, row.cells, usize::MAX] {
+            let region = Region::Identification;
+            let (number, part) = view(row.number, region, &cells, &identification, address);
+            assert_eq!(number, Number::Done);
+            assert!(std::ptr::eq(part, &identification[..]), "{}", row.name);
+        }
+    }
+}
+
+#[test]
+fn number_13_for_cells_alone() {
+    for (row, cells, identification) in lent() {
+        for address in [row.cells, row.cells + 1, 2 * row.cells, usize::MAX] {
+            let given = view(row.number, Region::Cells, &cells, &identification, address);
+            assert_eq!(given, (Number::Address, NO_PART), "{}", row.name);
+        }
+    }
+}
+
+#[test]
+fn a_view_gives_1_2_3_and_13_in_order() {
+    let bytes = [7; 513];
+    // Everything is wrong at first; then one thing after another is made right.
+    for (number, cells, page, address, of_cells) in [
+        (0, 511, 15, 512, Number::Device),
+        (5, 512, 16, 0, Number::Device),
+        (255, 512, 16, 512, Number::Device),
+        (1, 511, 15, 512, Number::Cells),
+        (1, 513, 17, 0, Number::Cells),
+        (1, 0, 16, usize::MAX, Number::Cells),
+        (1, 512, 15, 512, Number::Identification),
+        (1, 512, 0, 0, Number::Identification),
+        (1, 512, 16, 512, Number::Address),
+        (1, 512, 16, 511, Number::Done),
+    ] {
+        let of_identification = match of_cells {
+            Number::Address => Number::Done,
+            other => other,
+        };
+        for (region, expected) in REGIONS.into_iter().zip([of_cells, of_identification]) {
+            let (got, part) = view(number, region, &bytes[..cells], &bytes[..page], address);
+            let asked = format!("{number} {region:?} {cells} {page} {address}");
+            assert_eq!(got, expected, "{asked}");
+            let length = if got == Number::Done { 16 } else { 0 };
+            assert_eq!(part.len(), length, "{asked}");
+        }
+    }
+}
+
+#[test]
+fn a_view_judges_the_slice_that_was_not_asked_for() {
+    for (row, cells, identification) in lent() {
+        for wrong in [&cells[1..], &identification, NO_PART] {
+            let region = Region::Identification;
+            let given = view(row.number, region, wrong, &identification, 0);
+            assert_eq!(given, (Number::Cells, NO_PART), "{}", row.name);
+        }
+        for wrong in [&identification[1..], &cells, NO_PART] {
+            let given = view(row.number, Region::Cells, &cells, wrong, 0);
+            assert_eq!(given, (Number::Identification, NO_PART), "{}", row.name);
+        }
+    }
+}
+
+/// The number of a view by the table alone: the first of its rows that fits.
+fn number_due(view: &View) -> Number {
+    let Some(row) = device(view.device) else {
+        return Number::Device;
+    };
+    let past = view.region == Region::Cells && view.address >= row.cells;
+    let rows = [
+        (Number::Cells, view.cells != row.cells),
+        (Number::Identification, view.identification != row.page),
+        (Number::Address, past),
+        (Number::Done, true),
+    ];
+    let due = rows.into_iter().find(|(_, fits)| *fits);
+    due.expect("the last fits always").0
+}
+
+#[test]
+fn every_chosen_view_gives_the_number_due() {
+    let (cells, identification) = view_bytes();
+    for row in &DEVICES {
+        let mut seen = Vec::new();
+        for view in views(row) {
+            let (number, part) = view.show(Fault::None, &cells, &identification);
+            assert_eq!(number, number_due(&view), "{view:?}");
+            let length = if number == Number::Done { row.page } else { 0 };
+            assert_eq!(part.len(), length, "{view:?}");
+            if !seen.contains(&(view.region, number)) {
+                seen.push((view.region, number));
+            }
+        }
+        assert_eq!(seen.len(), 5 + 4, "all numbers, 13 for cells alone");
+    }
 }

@@ -516,7 +516,7 @@ fn lid_asks_for_one_data_byte_with_bit_1() {
 }
 
 #[test]
-fn lock_and_bp_11_guard_the_identification_page() {
+fn lock_and_bp_11_stop_wrid_and_lid() {
     let mut board = Board::new(2);
     board.write(&[0x01, 0x0C]);
     board.write(&[0x82, 0x00, 0x00, 0x11]);

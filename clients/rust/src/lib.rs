@@ -21,7 +21,7 @@ pub mod refused {
     pub const STATE: usize = 5;
     /// A record is cut short.
     pub const CUT: usize = 6;
-    /// A record's, or an event's, kind is unknown.
+    /// A record's or an event's kind is unknown.
     pub const KIND: usize = 7;
     /// A record's length is not its kind's.
     pub const LENGTH: usize = 8;
@@ -52,6 +52,13 @@ pub mod pin {
     pub const S: usize = 4;
     pub const HOLD: usize = 6;
     pub const W: usize = 8;
+}
+
+/// What can be looked at: the cells, a page at a time, or the identification page. The numbers are those of m95.h.
+#[derive(Clone, Copy, Debug, PartialEq, Eq)]
+pub enum Region {
+    Cells = 0,
+    Identification = 1,
 }
 
 mod c {
@@ -127,18 +134,15 @@ mod c {
             status: *mut usize,
             lock: *mut usize,
         ) -> usize;
-        pub fn m95_cell_page(
+        pub fn m95_view(
             device: usize,
+            region: usize,
             cells: *const u8,
             cells_length: usize,
-            address: usize,
-            start: *mut usize,
-            length: *mut usize,
-        ) -> usize;
-        pub fn m95_identification_page(
-            device: usize,
             identification: *const u8,
             identification_length: usize,
+            address: usize,
+            start: *mut usize,
             length: *mut usize,
         ) -> usize;
     }
@@ -285,40 +289,36 @@ pub fn stored(state: &[u8]) -> Result<(usize, usize), usize> {
     }
 }
 
-/// The page of cells that holds an address, or the number that refuses it.
-pub fn cell_page(device: usize, cells: &[u8], address: usize) -> Result<&[u8], usize> {
+/// A view of a region: of the cells the page that holds the address, of the identification page all, whatever the address. It is refused
+/// with 1, with 2 and 3 whichever slice was asked for, and for the cells alone with 13.
+pub fn view<'a>(
+    device: usize,
+    region: Region,
+    cells: &'a [u8],
+    identification: &'a [u8],
+    address: usize,
+) -> Result<&'a [u8], usize> {
     let (mut start, mut length) = (0, 0);
-    // SAFETY: the pointer is a slice's, with the slice's length; start and length are local numbers.
+    // SAFETY: each pointer is a slice's, with the slice's length; start and length are local numbers.
     let number = unsafe {
-        c::m95_cell_page(
+        c::m95_view(
             device,
+            region as usize,
             cells.as_ptr(),
             cells.len(),
+            identification.as_ptr(),
+            identification.len(),
             address,
             &mut start,
             &mut length,
         )
     };
-    match number {
-        0 => Ok(&cells[start..start + length]),
-        number => Err(number),
-    }
-}
-
-/// The identification page, or the number that refuses it.
-pub fn identification_page(device: usize, identification: &[u8]) -> Result<&[u8], usize> {
-    let mut length = 0;
-    // SAFETY: the pointer is a slice's, with the slice's length; the length is a local number.
-    let number = unsafe {
-        c::m95_identification_page(
-            device,
-            identification.as_ptr(),
-            identification.len(),
-            &mut length,
-        )
+    let buffer = match region {
+        Region::Cells => cells,
+        Region::Identification => identification,
     };
     match number {
-        0 => Ok(&identification[..length]),
+        0 => Ok(&buffer[start..start + length]),
         number => Err(number),
     }
 }

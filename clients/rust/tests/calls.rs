@@ -1,9 +1,11 @@
 //! The wrapper's calls beside the second model's: generated traces of every profile whole, in pieces and event by event, the numbers
-//! of lent buffers, the pages, and states of any bytes. Nothing is expected of either but what the other says.
+//! of lent buffers, views, and states of any bytes. Nothing is expected of either but what the other says.
 
-use m95_model::generate::{events, records_of, trace_with_tail, Profile, Random, TAILS};
-use m95_model::{Device, Event, Number, Output, State, DEVICES};
-use proved::{kind, pin, refused, Lent, STATE_BYTES};
+use m95_model::generate::{
+    events, records_of, trace_with_tail, view_bytes, views, Profile, Random, View, TAILS,
+};
+use m95_model::{Device, Event, Fault, Number, Output, State, DEVICES};
+use proved::{kind, pin, refused, Lent, Region, STATE_BYTES};
 
 /// A device's buffers, for one of the two.
 #[derive(Clone, PartialEq)]
@@ -402,44 +404,60 @@ fn states_of_any_bytes() {
     assert!((1..20_000).contains(&sound));
 }
 
+/// The model's answer to a view, as the library would give it.
+fn expected(model: (Number, &[u8])) -> Result<&[u8], usize> {
+    match model {
+        (Number::Done, part) => Ok(part),
+        (number, _) => Err(number as usize),
+    }
+}
+
+/// The library's answer to one of the model's views.
+fn viewed<'a>(view: &View, cells: &'a [u8], identification: &'a [u8]) -> Result<&'a [u8], usize> {
+    let region = match view.region {
+        m95_model::Region::Cells => Region::Cells,
+        m95_model::Region::Identification => Region::Identification,
+    };
+    let (cells, identification) = (&cells[..view.cells], &identification[..view.identification]);
+    proved::view(
+        view.device.into(),
+        region,
+        cells,
+        identification,
+        view.address,
+    )
+}
+
 #[test]
-fn pages_are_the_models() {
-    for row in &DEVICES {
-        let device = usize::from(row.number);
-        let cells: Vec<u8> = (0..row.cells)
-            .map(|place| (place / row.page) as u8)
-            .collect();
-        for address in [
-            0,
-            1,
-            row.page - 1,
-            row.page,
-            row.cells - 1,
-            row.cells,
-            usize::MAX,
-        ] {
-            let (number, page) = m95_model::cell_page(row.number, &cells, address);
-            let expected = if number as usize == 0 {
-                Ok(page)
-            } else {
-                Err(number as usize)
-            };
-            assert_eq!(proved::cell_page(device, &cells, address), expected);
-        }
-        assert_eq!(
-            proved::cell_page(device, &cells[1..], row.cells),
-            Err(refused::CELLS)
+fn views_are_the_models() {
+    let (cells, identification) = view_bytes();
+    for view in DEVICES.iter().flat_map(views) {
+        let ours = viewed(&view, &cells, &identification);
+        let model = expected(view.show(Fault::None, &cells, &identification));
+        assert_eq!(ours, model, "{view:?}");
+        // No copy: the part lies where the model's does.
+        assert!(
+            ours.map(<[u8]>::as_ptr) == model.map(<[u8]>::as_ptr),
+            "{view:?}"
         );
-        assert_eq!(
-            proved::cell_page(device + 256, &cells, 0),
-            Err(refused::DEVICE)
-        );
-        let page = &cells[..row.page];
-        assert_eq!(proved::identification_page(device, page), Ok(page));
-        assert_eq!(
-            proved::identification_page(device, &cells),
-            Err(refused::IDENTIFICATION)
-        );
-        assert_eq!(proved::identification_page(0, page), Err(refused::DEVICE));
+    }
+    // The model's numbers of devices are bytes; the library's are not.
+    for device in 256..=260 {
+        let large = proved::view(device, Region::Cells, &cells, &identification, 0);
+        assert_eq!(large, Err(refused::DEVICE));
+    }
+}
+
+/// The views would tell the library from a model that is wrong about them in a named way; but for one, since a refused part cannot be seen
+/// through a `Result`. The test in C sees that there is none.
+#[test]
+fn wrong_views_are_told_apart() {
+    let (cells, identification) = view_bytes();
+    for fault in Fault::ALL.iter().filter(|fault| fault.is_of_view()) {
+        let differs = DEVICES.iter().flat_map(views).any(|view| {
+            let wrong = expected(view.show(*fault, &cells, &identification));
+            viewed(&view, &cells, &identification) != wrong
+        });
+        assert_eq!(differs, *fault != Fault::ViewRefusalShowsPart, "{fault:?}");
     }
 }

@@ -2,6 +2,7 @@
 // alone, so a caller who knows nothing else can use them.
 
 use rules::Event;
+use rules::Region;
 use rules::Stored;
 
 // Preparing an M95040 gives 0, and a device that is not there 1.
@@ -15,27 +16,46 @@ fn prepares() {
     check::expect(bad.number == 1);
 }
 
-// The cell page that holds address 40 is shown, and an address past the cells is refused with 13.
-fn shows_cell_page() {
+// A view of the cells shows the page that holds address 40, and an address past them is refused with 13.
+fn views_cells() {
     let cells = [0u8; 512];
+    let identification = [7u8; 16];
     let mut number: usize = 9;
-    let page = m95::cell_page(1, &cells, 40, &mut number);
+    let page = m95::view(1, Region::Cells, &cells, &identification, 40, &mut number);
     check::expect(number == 0);
     check::expect(page.len() == 16);
-    let past = m95::cell_page(1, &cells, 512, &mut number);
+    check::expect(page[15] == 0);
+    let past = m95::view(1, Region::Cells, &cells, &identification, 512, &mut number);
     check::expect(number == 13);
     check::expect(past.len() == 0);
 }
 
-// The identification page is shown, and that of a device that is not there is refused with 1.
-fn shows_identification_page() {
-    let identification = [0u8; 16];
+// A view of the identification page shows that page whatever the address, and is refused with 2 for cells that nobody asked for.
+fn views_identification() {
+    let cells = [0u8; 512];
+    let short = [0u8; 511];
+    let identification = [7u8; 16];
     let mut number: usize = 9;
-    let page = m95::identification_page(1, &identification, &mut number);
+    let page = m95::view(
+        1,
+        Region::Identification,
+        &cells,
+        &identification,
+        512,
+        &mut number,
+    );
     check::expect(number == 0);
     check::expect(page.len() == 16);
-    let none = m95::identification_page(0, &identification, &mut number);
-    check::expect(number == 1);
+    check::expect(page[15] == 7);
+    let none = m95::view(
+        1,
+        Region::Identification,
+        &short,
+        &identification,
+        0,
+        &mut number,
+    );
+    check::expect(number == 2);
     check::expect(none.len() == 0);
 }
 
@@ -140,8 +160,8 @@ fn main() {
     loads();
     judges();
     tells_status();
-    shows_cell_page();
-    shows_identification_page();
+    views_cells();
+    views_identification();
     replies();
     runs();
 }

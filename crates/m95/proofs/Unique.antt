@@ -3,13 +3,14 @@ use Prim.Native.Nat.{ℕ}
 use mathlib.Core.Path.{_≡_, sym, _∙_}
 use mathlib.Core.List.{List}
 use Rattle.rules.specs.declared.Event.{Event}
+use Rattle.rules.specs.declared.Region.{Region}
 use Rattle.rules.specs.declared.State.{State}
 use Rattle.rules.specs.declared.Stored.{Stored}
 use Rattle.rules.specs.World.{World}
 use Rattle.rules.specs.Device.{preparedState}
 use Rattle.rules.specs.Send.{statusByte}
 use Rattle.rules.specs.Trace.{Progress}
-use Rattle.rules.specs.Call.{worldRefusal, Prepared, prepareOutcome, storedIn, Loaded, loadOutcome, Replied, eventOutcome, runOutcome, Shown, cellPageOutcome, identificationPageOutcome}
+use Rattle.rules.specs.Call.{worldRefusal, Prepared, prepareOutcome, storedIn, Loaded, loadOutcome, Replied, eventOutcome, runOutcome, Shown, viewOutcome}
 
 -- What a contract of the form "the outcome is this function of the input" allows is one outcome.
 pub unique : {A : Type 0} {x y z : A} → x ≡ z → y ≡ z → x ≡ y
@@ -32,12 +33,9 @@ pub unique-run : {x y : Progress} (device : ℕ) (w : World) (trace answers : Li
     → y ≡ runOutcome device w trace answers limit → x ≡ y
 unique-run device w trace answers limit = unique
 
-pub unique-cell-page : {x y : Shown} (device : ℕ) (cells : List ℕ) (address : ℕ) → x ≡ cellPageOutcome device cells address → y ≡ cellPageOutcome device cells address → x ≡ y
-unique-cell-page device cells address = unique
-
-pub unique-identification-page : {x y : Shown} (device : ℕ) (identification : List ℕ) → x ≡ identificationPageOutcome device identification
-    → y ≡ identificationPageOutcome device identification → x ≡ y
-unique-identification-page device identification = unique
+pub unique-view : {x y : Shown} (device : ℕ) (region : Region) (cells identification : List ℕ) (address : ℕ)
+    → x ≡ viewOutcome device region cells identification address → y ≡ viewOutcome device region cells identification address → x ≡ y
+unique-view device region cells identification address = unique
 
 pub unique-status-byte : {x y : ℕ} (s : State) → x ≡ statusByte s → y ≡ statusByte s → x ≡ y
 unique-status-byte s e f = unique e f

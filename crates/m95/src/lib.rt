@@ -1,5 +1,5 @@
-// The library: prepare, load, event, run, what is stored, and the two pages. Each call takes any input whatever, and its contract says its whole answer
-// and the whole contents of every lent buffer as one function of the input: the outcomes of rules/specs/Call.antt.
+// The library: prepare, load, event, run, what is stored, and a view of a page. Each call takes any input whatever, and its contract says its
+// whole answer and the whole contents of every lent buffer as one function of the input: the outcomes of rules/specs/Call.antt.
 
 ghost use mathlib.Core.Path.{_≡_};
 ghost use Rattle.rules.specs.World.{worldOf};
@@ -11,14 +11,13 @@ use rules::Event;
 use rules::State;
 use traces::records::Ran;
 
-// The calls that run nothing: preparing and what is stored, whose contracts stand in `lent`, and the pages, in `pages`.
+// The calls that run nothing: preparing and what is stored, whose contracts stand in `lent`, and the view of a page, in `pages`.
 pub use lent::loading::load;
 pub use lent::loading::stored;
 pub use lent::preparing::Prepared;
 pub use lent::preparing::prepare;
 pub use lent::preparing::prepared_state;
-pub use pages::cell_page;
-pub use pages::identification_page;
+pub use pages::view;
 
 // What an event gives back: its number, the answer (0, 1, or 2 for Z), and the state.
 pub struct Replied {

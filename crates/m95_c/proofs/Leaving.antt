@@ -1,5 +1,5 @@
 -- What each call for C leaves, one law for each way through the rules.
-use Prim.Native.Nat.{ℕ, _-_, _%_, _≤_, _<_, min}
+use Prim.Native.Nat.{ℕ, _≤_, _<_, min}
 use mathlib.Core.Path.{_≡_, sym, ap, _∙_, subst}
 use mathlib.Core.Bool.{Bool, true, false, not, _&&_}
 use mathlib.Core.List.{List}
@@ -8,6 +8,7 @@ use lib.Dec.{eqb, leb, ltb}
 use lib.ListN.{length}
 use borrow.Author.Tests.{ltb-false, eq-eqb, ne-eqb, le-leb, lt-leb, not-true, not-false}
 use Rattle.rules.specs.declared.Event.{Event}
+use Rattle.rules.specs.declared.Region.{Region}
 use Rattle.rules.specs.declared.Row.{Row}
 use Rattle.rules.specs.declared.State.{State}
 use Rattle.rules.specs.declared.Stored.{Stored}
@@ -16,13 +17,13 @@ use Rattle.rules.specs.Device.{isDevice, rowOf}
 use Rattle.rules.specs.Send.{statusByte}
 use Rattle.rules.specs.Trace.{lengthOf, pinEvent, progressOf}
 use Rattle.rules.specs.Call as call
-use Rattle.rules.specs.Call.{worldRefusal, prepareOutcome, storedAs, storedIn, loadOutcome, eventOutcome, runOutcome, shownAs, cellPageOutcome, identificationPageOutcome}
+use Rattle.rules.specs.Call.{memoryRefusal, worldRefusal, prepareOutcome, storedAs, storedIn, loadOutcome, eventOutcome, runOutcome, shownAs, viewOutcome}
 use Rattle.rules.proofs.Choice.{if-elim}
 use Rattle.m95.proofs.Calling.{fine}
 use Rattle.m95_c.proofs.Packing.{state-length}
 use Rattle.m95_c.specs.StateBytes.{isState, stateOf, noState, bytesOf}
 use Rattle.m95_c.specs.Left.{deviceOf, sizesAs, sizesOf, Buffers, buffersOf, preparedAs, prepareLeft, byteFor, loadedAs, loadLeft, eventRefusal}
-use Rattle.m95_c.specs.Left.{eventOf, repliedAs, eventLeft, ranAs, runLeft, toldAs, statusLeft, keptAs, storedLeft, placedAs, cellPageLeft, identificationPageLeft}
+use Rattle.m95_c.specs.Left.{eventOf, repliedAs, eventLeft, ranAs, runLeft, toldAs, statusLeft, keptAs, storedLeft, regionOf, partStart, placedAs, viewLeft}
 
 -- A number that fits a byte is kept, as `deviceOf` and `byteFor` have it; another gives way to what stands for none.
 pub byte-kept : (none n : ℕ) → n ≤ 255 → n ≡ (if leb n 255 then n else none)
@@ -171,22 +172,22 @@ module _ (b : List ℕ) {t : Bool} (et : t ≡ isState b) where
   unfolding storedLeft stateOf
   stored-told h es ex = rw (← et, not-false t h, ex, es, ← et, not-false t h)
 
--- The pages.
-module _ (n : ℕ) {d : ℕ} (ed : d ≡ deviceOf n) {m : ℕ} {part : List ℕ} where
-  module _ (cells : List ℕ) (address : ℕ) (eo : shownAs m part ≡ cellPageOutcome d cells address) where
-    pub cell-page-refused : (m ≡ 0 → ⊥) → placedAs m 0 0 ≡ cellPageLeft n cells address
-    unfolding cellPageLeft
-    cell-page-refused h = rw (← ed, ← eo, ne-eqb m 0 h)
+-- A view.
+module _ (n region : ℕ) (cells identification : List ℕ) (address : ℕ) {d : ℕ} (ed : d ≡ deviceOf n) {k : ℕ} (ek : k ≡ memoryRefusal d cells identification) where
+  pub view-refused : (k ≡ 0 → ⊥) → placedAs k 0 0 ≡ viewLeft n region cells identification address
+  unfolding viewLeft
+  view-refused h = rw (← ed, ← ek, ne-eqb k 0 h, ne-eqb k 0 h)
 
-    pub cell-page-placed : m ≡ 0 → {row : Row} → row ≡ rowOf d → {p : ℕ} → p ≡ address % row .page → placedAs 0 (address - p) (row .page) ≡ cellPageLeft n cells address
-    unfolding cellPageLeft
-    cell-page-placed z er ep = rw (← ed, ← eo, z, ep, er)
+  module _ (z : k ≡ 0) where
+    pub view-of-none : 1 < region → placedAs 7 0 0 ≡ viewLeft n region cells identification address
+    unfolding viewLeft
+    view-of-none h = rw (← ed, ← ek, z, lt-leb region 1 h)
 
-  module _ (identification : List ℕ) (eo : shownAs m part ≡ identificationPageOutcome d identification) where
-    pub page-refused : (m ≡ 0 → ⊥) → placedAs m 0 0 ≡ identificationPageLeft n identification
-    unfolding identificationPageLeft
-    page-refused h = rw (← ed, ← eo, ne-eqb m 0 h)
+    module _ (h : region ≤ 1) {r : Region} (er : r ≡ regionOf region) {m : ℕ} {part : List ℕ} (eo : shownAs m part ≡ viewOutcome d r cells identification address) where
+      pub view-past : (m ≡ 0 → ⊥) → placedAs m 0 0 ≡ viewLeft n region cells identification address
+      unfolding viewLeft
+      view-past p = rw (← ed, ← ek, z, le-leb region 1 h, ← er, ← eo, ne-eqb m 0 p)
 
-    pub page-placed : m ≡ 0 → placedAs 0 0 (length identification) ≡ identificationPageLeft n identification
-    unfolding identificationPageLeft
-    page-placed z = rw (← ed, ← eo, z)
+      pub view-placed : m ≡ 0 → {start : ℕ} → start ≡ partStart (rowOf d) r address → placedAs 0 start (length part) ≡ viewLeft n region cells identification address
+      unfolding viewLeft
+      view-placed p es = rw (← ed, ← ek, z, le-leb region 1 h, ← er, ← eo, p, es)

@@ -5,7 +5,7 @@ use mathlib.Core.List.{List}
 use Rattle.m95.proofs.Unique.{unique}
 use Rattle.m95_c.specs.StateBytes.{version}
 use Rattle.m95_c.specs.Left.{sizesOf, Buffers, buffersRefusal, Prepared, prepareLeft, Loaded, loadLeft, Kept, storedLeft}
-use Rattle.m95_c.specs.Left.{Replied, eventLeft, Ran, runLeft, Told, statusLeft, Placed, cellPageLeft, identificationPageLeft}
+use Rattle.m95_c.specs.Left.{Replied, eventLeft, Ran, runLeft, Told, statusLeft, Placed, viewLeft}
 
 pub unique-cells : {x y : ℕ} (device : ℕ) → x ≡ sizesOf device .cells → y ≡ sizesOf device .cells → x ≡ y
 unique-cells device e f = unique e f
@@ -28,11 +28,9 @@ unique-run device b trace answers limit = unique
 pub unique-status-byte : {x y : Told} (state : List ℕ) → x ≡ statusLeft state → y ≡ statusLeft state → x ≡ y
 unique-status-byte state = unique
 
-pub unique-cell-page : {x y : Placed} (device : ℕ) (cells : List ℕ) (address : ℕ) → x ≡ cellPageLeft device cells address → y ≡ cellPageLeft device cells address → x ≡ y
-unique-cell-page device cells address = unique
-
-pub unique-identification-page : {x y : Placed} (device : ℕ) (identification : List ℕ) → x ≡ identificationPageLeft device identification → y ≡ identificationPageLeft device identification → x ≡ y
-unique-identification-page device identification = unique
+pub unique-view : {x y : Placed} (device region : ℕ) (cells identification : List ℕ) (address : ℕ) → x ≡ viewLeft device region cells identification address
+    → y ≡ viewLeft device region cells identification address → x ≡ y
+unique-view device region cells identification address = unique
 
 pub unique-version : {x y : ℕ} → x ≡ version → y ≡ version → x ≡ y
 unique-version e f = unique e f

@@ -1,11 +1,13 @@
 -- What each call for C leaves: its number and everything lent to it, as one function of what it was given.
-use Rattle.rules.specs.World.{ℕ, _-_, _%_, not, _&&_, List, length, eqb, leb, ltb, min, if_then_else_, World, worldOf}
+use Rattle.rules.specs.World.{ℕ, _-_, _%_, Bool, not, _&&_, List, length, eqb, leb, ltb, min, if_then_else_, World, worldOf}
 use Rattle.rules.specs.declared.Event.{Event}
+use Rattle.rules.specs.declared.Region.{Region}
+use Rattle.rules.specs.declared.Row.{Row}
 use Rattle.rules.specs.declared.Stored.{Stored}
 use Rattle.rules.specs.Device.{isDevice, rowOf}
 use Rattle.rules.specs.Send.{statusByte}
 use Rattle.rules.specs.Trace.{lengthOf, pinEvent}
-use Rattle.rules.specs.Call.{worldRefusal, prepareOutcome, storedAs, storedIn, loadOutcome, eventOutcome, runOutcome, cellPageOutcome, identificationPageOutcome}
+use Rattle.rules.specs.Call.{memoryRefusal, worldRefusal, prepareOutcome, storedAs, storedIn, loadOutcome, eventOutcome, runOutcome, viewOutcome}
 use Rattle.m95_c.specs.declared.showing.Sizes.{Sizes}
 use Rattle.m95_c.specs.StateBytes.{stateLength, isState, stateOf, stateAt, noState, bytesOf}
 
@@ -144,7 +146,23 @@ keptAs number status lock = record { number = number; stored = storedAs status l
 unfoldable pub storedLeft : List ℕ → Kept
 storedLeft b = let x = storedIn (stateAt b) in if isState b then keptAs 0 (x .status) (x .lock) else keptAs 5 0 0
 
--- A page by where it starts and how long it is; both 0 where it is refused.
+-- A region by its number: 0 the cells, 1 the identification page, and any other is none.
+abbrev pub isRegion : ℕ → Bool
+isRegion n = leb n 1
+
+abbrev pub regionOf : ℕ → Region
+regionOf n = if eqb n 0 then Region.Cells else Region.Identification
+
+-- Which of the two lent buffers a region's part lies in, and where in it.
+abbrev pub sliceOf : Region → List ℕ → List ℕ → List ℕ
+sliceOf Region.Cells cells identification = cells
+sliceOf Region.Identification cells identification = identification
+
+abbrev pub partStart : Row → Region → ℕ → ℕ
+partStart row Region.Cells address = address - address % row .page
+partStart row Region.Identification address = 0
+
+-- A view by where its part starts and how long it is; both 0 where it is refused: 1 to 3, then 7 for a number that is no region's, then 13.
 pub record Placed : Type 0 where
   pub number : ℕ
   pub start : ℕ
@@ -153,13 +171,13 @@ pub record Placed : Type 0 where
 abbrev pub placedAs : ℕ → ℕ → ℕ → Placed
 placedAs number start length = record { number = number; start = start; length = length }
 
-unfoldable pub cellPageLeft : ℕ → List ℕ → ℕ → Placed
-cellPageLeft device cells address =
-    let o = cellPageOutcome (deviceOf device) cells address in
-    let page = rowOf (deviceOf device) .page in
-    if eqb (o .number) 0 then placedAs 0 (address - address % page) page else placedAs (o .number) 0 0
-
-unfoldable pub identificationPageLeft : ℕ → List ℕ → Placed
-identificationPageLeft device identification =
-    let o = identificationPageOutcome (deviceOf device) identification in
-    if eqb (o .number) 0 then placedAs 0 0 (length identification) else placedAs (o .number) 0 0
+unfoldable pub viewLeft : ℕ → ℕ → List ℕ → List ℕ → ℕ → Placed
+viewLeft device region cells identification address =
+    let o = viewOutcome (deviceOf device) (regionOf region) cells identification address in
+    let m = memoryRefusal (deviceOf device) cells identification in
+    let n : ℕ =
+    if not (eqb m 0) then m
+    else if not (isRegion region) then 7
+    else o .number in
+    if eqb n 0 then placedAs 0 (partStart (rowOf (deviceOf device)) (regionOf region) address) (length (o .part))
+    else placedAs n 0 0

@@ -1,9 +1,10 @@
-// The numbers that a caller in C hands in: a device, a byte, an event by the kind of its record and the number in it.
+// The numbers that a caller in C hands in: a device, a byte, an event by the kind of its record and the number in it, a region.
 
 ghost use mathlib.Core.Path.{_≡_};
 ghost use Prim.Native.Nat.{min};
-ghost use Rattle.m95_c.specs.Left.{deviceOf, byteFor, eventRefusal, eventOf};
+ghost use Rattle.m95_c.specs.Left.{deviceOf, byteFor, eventRefusal, eventOf, regionOf};
 use rules::Event;
+use rules::Region;
 
 // A number above a byte's is no device's, as 0 is.
 pub fn device_of(number: usize) -> u8
@@ -58,4 +59,14 @@ pub fn event_of(kind: usize, value: usize) -> Event
         2 => Event::Wait(wait_of(value)),
         _ => Event::Power,
     }
+}
+
+// The region that a number names. A number that names none is refused before this is asked.
+pub fn region_of(number: usize) -> Region
+    ensures { λ r. ⌜ r ≡ regionOf number ⌝ }
+{
+    if number == 0 {
+        return Region::Cells;
+    }
+    Region::Identification
 }

@@ -1,10 +1,14 @@
 // The calls that show a size, the status, what is stored or a page. A size is given back; the rest goes to the numbers that are lent for it.
 
 ghost use mathlib.Core.Path.{_≡_};
-ghost use Rattle.m95_c.specs.Left.{sizesOf, toldAs, statusLeft, keptAs, storedLeft, placedAs, cellPageLeft, identificationPageLeft};
+ghost use Rattle.rules.specs.Device.{rowOf};
+ghost use Rattle.m95_c.specs.Left.{sizesOf, toldAs, statusLeft, keptAs, storedLeft, partStart, placedAs, viewLeft};
 use crate::numbers::device_of;
+use crate::numbers::region_of;
 use crate::reading::is_state;
 use crate::reading::state_of;
+use lent::judging::memory_refused;
+use rules::Region;
 
 // How many cells a device has, and how many bytes a page of it.
 pub struct Sizes {
@@ -72,47 +76,50 @@ pub extern "C" fn m95_stored(state: &[u8], status: &mut usize, lock: &mut usize)
     0
 }
 
-// The cell page that holds an address: where it starts, and how long it is.
+// Where a region's part starts in its buffer.
+fn part_start(device: u8, region: Region, address: usize) -> usize
+    ensures { λ r. ⌜ r ≡ partStart (rowOf device) region address ⌝ }
+{
+    let row = tables::row_of(device);
+    match region {
+        Region::Cells => address - bits::place(row, address),
+        Region::Identification => 0,
+    }
+}
+
+// A view of a region: where its part starts, in the cells or in the identification page, and how long it is. The slices have one lifetime
+// because the part that `m95::view` hands over may be of either.
 #[no_mangle]
-pub extern "C" fn m95_cell_page(
+pub extern "C" fn m95_view<'a>(
     device: usize,
-    cells: &[u8],
+    region: usize,
+    cells: &'a [u8],
+    identification: &'a [u8],
     address: usize,
     start: &mut usize,
     length: &mut usize,
 ) -> usize
-    ensures { λ r. ⌜ placedAs r (now (start .exit)) (now (length .exit)) ≡ cellPageLeft device (now (cells .entry)) address ⌝ }
+    ensures { λ r. ⌜
+        placedAs r (now (start .exit)) (now (length .exit))
+        ≡ viewLeft device region (now (cells .entry)) (now (identification .entry)) address ⌝ }
 {
     let d = device_of(device);
+    *start = 0;
+    *length = 0;
+    let wrong = memory_refused(d, cells, identification);
+    if wrong != 0 {
+        return wrong;
+    }
+    if 1 < region {
+        return 7;
+    }
+    let asked = region_of(region);
     let mut number: usize = 0;
-    m95::cell_page(d, cells, address, &mut number);
+    let part = m95::view(d, asked, cells, identification, address, &mut number);
     if number != 0 {
-        *start = 0;
-        *length = 0;
         return number;
     }
-    let row = tables::row_of(d);
-    *start = address - bits::place(row, address);
-    *length = row.page;
-    0
-}
-
-// The identification page: all of its buffer, so that only its length is told.
-#[no_mangle]
-pub extern "C" fn m95_identification_page(
-    device: usize,
-    identification: &[u8],
-    length: &mut usize,
-) -> usize
-    ensures { λ r. ⌜ placedAs r 0 (now (length .exit)) ≡ identificationPageLeft device (now (identification .entry)) ⌝ }
-{
-    let d = device_of(device);
-    let mut number: usize = 0;
-    m95::identification_page(d, identification, &mut number);
-    if number != 0 {
-        *length = 0;
-        return number;
-    }
-    *length = identification.len();
+    *start = part_start(d, asked, address);
+    *length = part.len();
     0
 }

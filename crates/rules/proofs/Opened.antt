@@ -10,12 +10,12 @@ use Rattle.rules.specs.Cycle.{written, waitedState, waited}
 use Rattle.rules.specs.Event.{react, step, next}
 use Rattle.rules.specs.Sound.{clauses, isSound}
 use Rattle.rules.specs.Trace.{eventAt, recordRefusal, turn}
-use Rattle.rules.specs.Call.{memoryRefusal, lentRefusal, worldRefusal, prepareOutcome, loadOutcome, eventOutcome, runOutcome, cellPageOutcome, identificationPageOutcome, firstRecord}
+use Rattle.rules.specs.Call.{memoryRefusal, lentRefusal, worldRefusal, prepareOutcome, loadOutcome, eventOutcome, runOutcome, partOf, isPast, viewOutcome, firstRecord}
 
 unfoldable pub opened : ℕ
 unfolding prepared decode longer rolled addressAfter latchAfter risen risenLatch shownAddress outputAfter fallen isProtected allows isWhole isDone judged written waitedState waited react step next
 opened = 0
 
 unfoldable pub calls : ℕ
-unfolding opened clauses isSound eventAt recordRefusal turn memoryRefusal lentRefusal worldRefusal prepareOutcome loadOutcome eventOutcome runOutcome cellPageOutcome identificationPageOutcome firstRecord
+unfolding opened clauses isSound eventAt recordRefusal turn memoryRefusal lentRefusal worldRefusal prepareOutcome loadOutcome eventOutcome runOutcome partOf isPast viewOutcome firstRecord
 calls = 0

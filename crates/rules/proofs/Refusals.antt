@@ -188,41 +188,61 @@ run-power-in-a-cycle : spec.Gives spec.run-power-in-a-cycle
 unfolding calls
 run-power-in-a-cycle = refl
 
-cell-page-first-address : spec.Gives spec.cell-page-first-address
+view-cells-first-address : spec.Gives spec.view-cells-first-address
 unfolding calls
-cell-page-first-address = refl
+view-cells-first-address = refl
 
-cell-page-last-address : spec.Gives spec.cell-page-last-address
+view-cells-last-address : spec.Gives spec.view-cells-last-address
 unfolding calls
-cell-page-last-address = refl
+view-cells-last-address = refl
 
-cell-page-device : spec.Gives spec.cell-page-device
+view-cells-last-cell : spec.Gives spec.view-cells-last-cell
 unfolding calls
-cell-page-device = refl
+view-cells-last-cell = refl
 
-cell-page-cells : spec.Gives spec.cell-page-cells
+view-cells-past-the-cells : spec.Gives spec.view-cells-past-the-cells
 unfolding calls
-cell-page-cells = refl
+view-cells-past-the-cells = refl
 
-cell-page-past-the-cells : spec.Gives spec.cell-page-past-the-cells
+view-identification-shown : spec.Gives spec.view-identification-shown
 unfolding calls
-cell-page-past-the-cells = refl
+view-identification-shown = refl
 
-cell-page-of-the-last-cell : spec.Gives spec.cell-page-of-the-last-cell
+view-identification-past-the-cells : spec.Gives spec.view-identification-past-the-cells
 unfolding calls
-cell-page-of-the-last-cell = refl
+view-identification-past-the-cells = refl
 
-identification-page-shown : spec.Gives spec.identification-page-shown
+view-cells-device : spec.Gives spec.view-cells-device
 unfolding calls
-identification-page-shown = refl
+view-cells-device = refl
 
-identification-page-device : spec.Gives spec.identification-page-device
+view-cells-length : spec.Gives spec.view-cells-length
 unfolding calls
-identification-page-device = refl
+view-cells-length = refl
 
-identification-page-length : spec.Gives spec.identification-page-length
+view-cells-other-length : spec.Gives spec.view-cells-other-length
 unfolding calls
-identification-page-length = refl
+view-cells-other-length = refl
+
+view-identification-device : spec.Gives spec.view-identification-device
+unfolding calls
+view-identification-device = refl
+
+view-identification-other-length : spec.Gives spec.view-identification-other-length
+unfolding calls
+view-identification-other-length = refl
+
+view-identification-length : spec.Gives spec.view-identification-length
+unfolding calls
+view-identification-length = refl
+
+view-cells-other-alone : spec.Gives spec.view-cells-other-alone
+unfolding calls
+view-cells-other-alone = refl
+
+view-identification-other-alone : spec.Gives spec.view-identification-other-alone
+unfolding calls
+view-identification-other-alone = refl
 
 first-taken : spec.Gives spec.first-taken
 unfolding calls
@@ -269,7 +289,9 @@ refusals =
     and run-to-its-limit and run-data-select-protect and run-clock-hold and run-wait and run-wait-third-byte and run-wait-fourth-byte
     and run-answers-low and run-answers-high and run-device and run-cells and run-identification and run-latch and run-mark
     and run-no-four-bytes and run-unknown-kind and run-kind-of-two-bytes and run-wrong-length and run-length-of-two-bytes and run-no-body
-    and run-no-pin and run-no-answer-left and run-power-in-a-cycle and cell-page-first-address and cell-page-last-address and cell-page-device
-    and cell-page-cells and cell-page-past-the-cells and cell-page-of-the-last-cell and identification-page-shown and identification-page-device
-    and identification-page-length and first-taken and first-too-long and first-of-32768-bytes and first-no-four-bytes and first-other-kind
-    and first-other-length and first-no-body and first-device-three and first-device-zero and none
+    and run-no-pin and run-no-answer-left and run-power-in-a-cycle
+    and view-cells-first-address and view-cells-last-address and view-cells-last-cell and view-cells-past-the-cells and view-identification-shown
+    and view-identification-past-the-cells and view-cells-device and view-cells-length and view-cells-other-length and view-identification-device
+    and view-identification-other-length and view-identification-length and view-cells-other-alone and view-identification-other-alone
+    and first-taken and first-too-long and first-of-32768-bytes and first-no-four-bytes and first-other-kind and first-other-length
+    and first-no-body and first-device-three and first-device-zero and none

@@ -1,5 +1,6 @@
 -- 01, "Numbers given back": the whole outcome of each public call, for every input. Refusals are read from top to bottom.
-use Rattle.rules.specs.World.{ℕ, _+_, false, _&&_, ltb, getD, _-_, _%_, not, List, [], take, drop, length, eqb, leb, if_then_else_, number, Event, Stored, State, World, withStored}
+use Rattle.rules.specs.World.{ℕ, _+_, Bool, false, _&&_, ltb, getD, _-_, _%_, not, List, [], take, drop, length, eqb, leb, if_then_else_, number}
+use Rattle.rules.specs.World.{Row, Region, Event, Stored, State, World, withStored}
 use Rattle.rules.specs.Device.{isDevice, rowOf, preparedState, prepared}
 use Rattle.rules.specs.Judge.{storable}
 use Rattle.rules.specs.Sound.{isSound}
@@ -92,7 +93,18 @@ runOutcome device w trace answers limit =
     let n = worldRefusal device w in
     run (if eqb n 0 then limit else 0) (rowOf device) trace (record { number = n; taken = 0; done = 0; world = w; answers = answers })
 
--- A page shown without copying: the cell page holding an address (1, 2, 13), and the identification page (1, 3). A refusal gives an empty part.
+-- W-201, a page shown without copying. What a region shows: of the cells the page that holds the address; of the identification page
+-- all, whatever the address.
+unfoldable pub partOf : Row → Region → List ℕ → List ℕ → ℕ → List ℕ
+partOf row Region.Cells cells identification address = take (row .page) (drop (address - address % row .page) cells)
+partOf row Region.Identification cells identification address = identification
+
+-- Only the cells have addresses that can lie past them.
+unfoldable pub isPast : Row → Region → ℕ → Bool
+isPast row Region.Cells address = leb (row .cells) address
+isPast row Region.Identification address = false
+
+-- A view: 1 to 3, whatever the region, so that the slice which was not asked for is judged too; then 13. A refusal gives an empty part.
 pub record Shown : Type 0 where
   pub number : ℕ
   pub part : List ℕ
@@ -100,20 +112,15 @@ pub record Shown : Type 0 where
 abbrev pub shownAs : ℕ → List ℕ → Shown
 shownAs number part = record { number = number; part = part }
 
-unfoldable pub cellPageOutcome : ℕ → List ℕ → ℕ → Shown
-cellPageOutcome device cells address =
+unfoldable pub viewOutcome : ℕ → Region → List ℕ → List ℕ → ℕ → Shown
+viewOutcome device region cells identification address =
     let row = rowOf device in
+    let m = memoryRefusal device cells identification in
     let n : ℕ =
-    if not (isDevice device) then 1
-    else if not (eqb (length cells) (row .cells)) then 2
-    else if leb (row .cells) address then 13
+    if not (eqb m 0) then m
+    else if isPast row region address then 13
     else 0 in
-    record { number = n; part = if eqb n 0 then take (row .page) (drop (address - address % row .page) cells) else [] }
-
-unfoldable pub identificationPageOutcome : ℕ → List ℕ → Shown
-identificationPageOutcome device identification =
-    let n : ℕ = if not (isDevice device) then 1 else if not (eqb (length identification) (rowOf device .page)) then 3 else 0 in
-    record { number = n; part = if eqb n 0 then identification else [] }
+    record { number = n; part = if eqb n 0 then partOf row region cells identification address else [] }
 
 -- 01, "Bench program": its first record, which names the device. 12 for a long input, before all else; then 6, 7, 8, 6, 1: kind 16, length 3, device 1 or 2.
 pub record First : Type 0 where

@@ -1,11 +1,11 @@
 -- 01, "Numbers given back", by example: for each call each number that it can give, with the whole outcome beside it (the answer, the
 -- counts, the state and every lent buffer), and where two faults stand together the earlier number. `Unsound` has what gives 5.
-use Rattle.rules.specs.World.{ℕ, _≡_, Bool, true, false, List, [], _∷_, _++_, replicate, Instruction, Kind, Level, Event, Stored, State, World, worldOf, Each}
+use Rattle.rules.specs.World.{ℕ, _≡_, Bool, true, false, List, [], _∷_, _++_, replicate, Instruction, Kind, Region, Level, Event, Stored, State, World, worldOf, Each}
 use Rattle.rules.specs.World.{withPins, withSelection, withStored, withState, withLatch}
 use Rattle.rules.specs.Device.{preparedState}
 use Rattle.rules.specs.Trace.{Progress, progressOf}
 use Rattle.rules.specs.Call.{Prepared, preparedAs, prepareOutcome, storedAs, storedIn, Loaded, loadedAs, loadOutcome, Replied, repliedAs, eventOutcome, runOutcome}
-use Rattle.rules.specs.Call.{Shown, shownAs, cellPageOutcome, identificationPageOutcome, First, firstAs, firstRecord}
+use Rattle.rules.specs.Call.{Shown, shownAs, viewOutcome, First, firstAs, firstRecord}
 
 -- A line: a call, and its whole outcome.
 pub data Line : Type 0 where
@@ -14,8 +14,7 @@ pub data Line : Type 0 where
   stored : State → Stored → Line
   event : ℕ → World → Event → Replied → Line
   run : ℕ → World → List ℕ → List ℕ → ℕ → Progress → Line
-  cellPage : ℕ → List ℕ → ℕ → Shown → Line
-  identificationPage : ℕ → List ℕ → Shown → Line
+  view : ℕ → Region → List ℕ → List ℕ → ℕ → Shown → Line
   first : List ℕ → First → Line
 
 abbrev pub Gives : Line → Type 0
@@ -24,8 +23,7 @@ Gives (load device x r) = loadOutcome device x ≡ r
 Gives (stored s r) = storedIn s ≡ r
 Gives (event device w e r) = eventOutcome device w e ≡ r
 Gives (run device w trace answers limit r) = runOutcome device w trace answers limit ≡ r
-Gives (cellPage device cells address r) = cellPageOutcome device cells address ≡ r
-Gives (identificationPage device identification r) = identificationPageOutcome device identification ≡ r
+Gives (view device region cells identification address r) = viewOutcome device region cells identification address ≡ r
 Gives (first input r) = firstRecord input ≡ r
 
 -- Preparing: fills all three buffers whatever they held, a mark of 9 included; refused it leaves them and gives the prepared state.
@@ -257,36 +255,57 @@ run-no-answer-left = run 1 inCycle (pin 2 ++ power) (9 ∷ []) 2 (progressOf 10 
 abbrev pub run-power-in-a-cycle : Line
 run-power-in-a-cycle = run 1 inCycle (pin 2 ++ power) (9 ∷ 9 ∷ []) 2 (progressOf 11 5 1 inCycle (2 ∷ 9 ∷ []))
 
--- A page is shown, or an empty part: the cells' from its first address to its last.
+-- A view shows what its region has: a page of the cells from its first address to its last, or the identification page, whatever the
+-- address.
 abbrev striped : List ℕ
 striped = replicate 32 1 ++ replicate 16 2 ++ replicate 464 3
 
-abbrev pub cell-page-first-address : Line
-cell-page-first-address = cellPage 1 striped 32 (shownAs 0 (replicate 16 2))
+abbrev sevens : List ℕ
+sevens = replicate 16 7
 
-abbrev pub cell-page-last-address : Line
-cell-page-last-address = cellPage 1 striped 47 (shownAs 0 (replicate 16 2))
+abbrev pub view-cells-first-address : Line
+view-cells-first-address = view 1 Region.Cells striped sevens 32 (shownAs 0 (replicate 16 2))
 
-abbrev pub cell-page-device : Line
-cell-page-device = cellPage 0 (7 ∷ []) 512 (shownAs 1 [])
+abbrev pub view-cells-last-address : Line
+view-cells-last-address = view 1 Region.Cells striped sevens 47 (shownAs 0 (replicate 16 2))
 
-abbrev pub cell-page-cells : Line
-cell-page-cells = cellPage 1 (7 ∷ []) 512 (shownAs 2 [])
+abbrev pub view-cells-last-cell : Line
+view-cells-last-cell = view 1 Region.Cells striped sevens 511 (shownAs 0 (replicate 16 3))
 
-abbrev pub cell-page-past-the-cells : Line
-cell-page-past-the-cells = cellPage 1 striped 512 (shownAs 13 [])
+abbrev pub view-cells-past-the-cells : Line
+view-cells-past-the-cells = view 1 Region.Cells striped sevens 512 (shownAs 13 [])
 
-abbrev pub cell-page-of-the-last-cell : Line
-cell-page-of-the-last-cell = cellPage 1 striped 511 (shownAs 0 (replicate 16 3))
+abbrev pub view-identification-shown : Line
+view-identification-shown = view 1 Region.Identification striped sevens 32 (shownAs 0 sevens)
 
-abbrev pub identification-page-shown : Line
-identification-page-shown = identificationPage 1 (replicate 16 7) (shownAs 0 (replicate 16 7))
+abbrev pub view-identification-past-the-cells : Line
+view-identification-past-the-cells = view 1 Region.Identification striped sevens 512 (shownAs 0 sevens)
 
-abbrev pub identification-page-device : Line
-identification-page-device = identificationPage 0 (7 ∷ []) (shownAs 1 [])
+-- Refused it shows an empty part: of the cells 1, 2, 3 in this order, with 13 behind them; of the identification page 1, 2, 3.
+abbrev pub view-cells-device : Line
+view-cells-device = view 0 Region.Cells (7 ∷ []) (8 ∷ []) 512 (shownAs 1 [])
 
-abbrev pub identification-page-length : Line
-identification-page-length = identificationPage 1 (7 ∷ []) (shownAs 3 [])
+abbrev pub view-cells-length : Line
+view-cells-length = view 1 Region.Cells (7 ∷ []) (8 ∷ []) 512 (shownAs 2 [])
+
+abbrev pub view-cells-other-length : Line
+view-cells-other-length = view 1 Region.Cells striped (8 ∷ []) 512 (shownAs 3 [])
+
+abbrev pub view-identification-device : Line
+view-identification-device = view 5 Region.Identification (7 ∷ []) (8 ∷ []) 0 (shownAs 1 [])
+
+abbrev pub view-identification-other-length : Line
+view-identification-other-length = view 1 Region.Identification (7 ∷ []) (8 ∷ []) 0 (shownAs 2 [])
+
+abbrev pub view-identification-length : Line
+view-identification-length = view 1 Region.Identification striped (8 ∷ []) 0 (shownAs 3 [])
+
+-- The slice that was not asked for, and nothing else, is wrong.
+abbrev pub view-cells-other-alone : Line
+view-cells-other-alone = view 1 Region.Cells striped (8 ∷ []) 32 (shownAs 3 [])
+
+abbrev pub view-identification-other-alone : Line
+view-identification-other-alone = view 1 Region.Identification (7 ∷ []) sevens 0 (shownAs 2 [])
 
 -- The bench's first record: 12 before all else, then 6, 7, 8, 6, 1.
 abbrev pub first-taken : Line
@@ -325,8 +344,9 @@ refusals =
     ∷ run-data-select-protect ∷ run-clock-hold ∷ run-wait ∷ run-wait-third-byte ∷ run-wait-fourth-byte ∷ run-answers-low ∷ run-answers-high
     ∷ run-device ∷ run-cells ∷ run-identification ∷ run-latch ∷ run-mark ∷ run-no-four-bytes ∷ run-unknown-kind ∷ run-kind-of-two-bytes
     ∷ run-wrong-length ∷ run-length-of-two-bytes ∷ run-no-body ∷ run-no-pin ∷ run-no-answer-left ∷ run-power-in-a-cycle
-    ∷ cell-page-first-address ∷ cell-page-last-address ∷ cell-page-device ∷ cell-page-cells ∷ cell-page-past-the-cells
-    ∷ cell-page-of-the-last-cell ∷ identification-page-shown ∷ identification-page-device ∷ identification-page-length ∷ first-taken
+    ∷ view-cells-first-address ∷ view-cells-last-address ∷ view-cells-last-cell ∷ view-cells-past-the-cells ∷ view-identification-shown
+    ∷ view-identification-past-the-cells ∷ view-cells-device ∷ view-cells-length ∷ view-cells-other-length ∷ view-identification-device
+    ∷ view-identification-other-length ∷ view-identification-length ∷ view-cells-other-alone ∷ view-identification-other-alone ∷ first-taken
     ∷ first-too-long ∷ first-of-32768-bytes ∷ first-no-four-bytes ∷ first-other-kind ∷ first-other-length ∷ first-no-body ∷ first-device-three
     ∷ first-device-zero ∷ []
 

@@ -73,6 +73,12 @@ pub struct Going {
     pub past: bool,
 }
 
+// What can be looked at: the cells, a page at a time, or the identification page.
+pub enum Region {
+    Cells,
+    Identification,
+}
+
 // A level of the output Q.
 pub enum Level {
     Low,

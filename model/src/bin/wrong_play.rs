@@ -9,7 +9,7 @@ fn main() -> ExitCode {
     let arguments: Vec<String> = std::env::args().skip(1).collect();
     match arguments.split_first() {
         Some((word, [])) if word == "list" => {
-            library_faults().for_each(|fault| println!("{fault:?}"));
+            faults_of_traces().for_each(|fault| println!("{fault:?}"));
             ExitCode::SUCCESS
         }
         Some((name, rest)) => play_with(name, rest),
@@ -17,15 +17,15 @@ fn main() -> ExitCode {
     }
 }
 
-fn library_faults() -> impl Iterator<Item = Fault> {
+fn faults_of_traces() -> impl Iterator<Item = Fault> {
     Fault::ALL
         .iter()
         .copied()
-        .filter(|fault| !fault.is_of_bench())
+        .filter(|fault| !fault.is_of_bench() && !fault.is_of_view())
 }
 
 fn play_with(name: &str, arguments: &[String]) -> ExitCode {
-    let Some(fault) = library_faults().find(|fault| format!("{fault:?}") == name) else {
+    let Some(fault) = faults_of_traces().find(|fault| format!("{fault:?}") == name) else {
         return bad_use(&format!("{name} is no fault of the list"));
     };
     match play_files(fault, arguments) {

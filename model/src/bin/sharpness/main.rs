@@ -1,11 +1,13 @@
 //! `sharpness [SEEDS]` shows that generated traces notice mistakes: it runs the model with each named fault beside
-//! the right one, on short traces of all profiles and devices, and prints where each first shows.
+//! the right one, on short traces of all profiles and devices, and prints where each first shows. Mistakes of the bench
+//! program and of a view, which no trace can show, are held to inputs and views of their own.
 //!
 //! `sharpness --stored DIR` does so with the vectors that `store` wrote to DIR.
 //!
 //! A fault that nothing shows ends the program with status 1, unless a reason for it is given here.
 
 mod stored;
+mod views;
 
 use std::process::ExitCode;
 use std::rc::Rc;
@@ -14,6 +16,7 @@ use m95_model::generate::{
     bench_input, odd_bench_input, trace_with_tail, Profile, Random, ODD_BENCH_INPUTS, TAILS,
 };
 use m95_model::{bench, bench_wrongly, play_wrongly, Contents, Device, Fault, Played, DEVICES};
+use views::Views;
 
 const RECORDS: usize = 3_000;
 /// A malformed trace is about its end, so it may be short.
@@ -67,14 +70,13 @@ fn show_generated(seeds: u64) -> usize {
         "{:<32} {:<10} {:>6} {:<14} {:>9} {:>7}  meaning",
         "fault", "profile", "device", "by", "records", "traces"
     );
-    let inputs = bench_inputs(seeds);
-    let missed = Fault::ALL
-        .iter()
-        .filter(|fault| match fault.is_of_bench() {
-            true => !show_bench(**fault, &inputs),
-            false => !show(**fault, &cases),
-        })
-        .count();
+    let (inputs, views) = (bench_inputs(seeds), Views::new());
+    let is_seen = |fault: Fault| match (fault.is_of_bench(), fault.is_of_view()) {
+        (true, _) => show_bench(fault, &inputs),
+        (_, true) => views.show(fault),
+        _ => show(fault, &cases),
+    };
+    let missed = Fault::ALL.iter().filter(|fault| !is_seen(**fault)).count();
     println!("{missed} faults not seen without a reason");
     missed
 }
@@ -234,21 +236,27 @@ fn bench_inputs(seeds: u64) -> Vec<Vec<u8>> {
     inputs
 }
 
-/// The line of one fault of the bench program; false when it was missed.
+/// Prints the line of one fault of the bench program; false when it was missed.
 fn show_bench(fault: Fault, inputs: &[Vec<u8>]) -> bool {
-    let name = format!("{fault:?}");
     let seen = inputs
         .iter()
         .filter(|input| bench(input) != bench_wrongly(fault, input))
         .count();
-    let meaning = fault.meaning();
-    if seen == 0 {
+    let first = (seen > 0).then(|| (String::new(), "line"));
+    show_without_trace(fault, "bench", first, seen)
+}
+
+/// Prints the line of a fault that is `of` something else than a trace: the device and the kind of its first
+/// difference, and how many there are. False when there is none.
+fn show_without_trace(fault: Fault, of: &str, first: Option<(String, &str)>, seen: usize) -> bool {
+    let (name, meaning) = (format!("{fault:?}"), fault.meaning());
+    let Some((device, by)) = first else {
         println!("{name:<32} not seen: no reason is known  ({meaning})");
         return false;
-    }
+    };
     println!(
-        "{name:<32} {:<10} {:>6} {:<14} {:>9} {seen:>7}  {meaning}",
-        "bench", "", "line", ""
+        "{name:<32} {of:<10} {device:>6} {by:<14} {:>9} {seen:>7}  {meaning}",
+        ""
     );
     true
 }

@@ -12,6 +12,7 @@ const ROOM: &str = "only a full room for answers shows it, which a vector never 
 const BEYOND: &str =
     "only the answer room past the last answer shows it, which a vector does not hold";
 const LIMIT: &str = "only the limit shows it, which a vector never reaches";
+const VIEW: &str = "only a view shows it, which a vector does not hold";
 const BENCH: &str = "only the bench program shows it, which a vector does not run";
 
 /// Faults that no vector can notice, and why.
@@ -39,9 +40,10 @@ pub fn show(directory: &str) -> Result<usize, String> {
         "{:<32} {:<10} {:>6} {:>6} {:>8}  meaning",
         "fault", "profile", "device", "index", "vectors"
     );
-    let (bench, of_library): (Vec<Fault>, Vec<Fault>) =
-        Fault::ALL.iter().partition(|fault| fault.is_of_bench());
-    let unnoticed: Vec<Fault> = of_library
+    let (elsewhere, of_traces): (Vec<Fault>, Vec<Fault>) = Fault::ALL
+        .iter()
+        .partition(|fault| elsewhere(**fault).is_some());
+    let unnoticed: Vec<Fault> = of_traces
         .into_iter()
         .filter(|fault| !show_noticed(*fault, &files))
         .collect();
@@ -51,10 +53,10 @@ pub fn show(directory: &str) -> Result<usize, String> {
         .count();
     println!(
         "{} faults noticed, {} not:",
-        Fault::ALL.len() - unnoticed.len() - bench.len(),
-        unnoticed.len() + bench.len()
+        Fault::ALL.len() - unnoticed.len() - elsewhere.len(),
+        unnoticed.len() + elsewhere.len()
     );
-    for fault in unnoticed.iter().chain(&bench) {
+    for fault in unnoticed.iter().chain(&elsewhere) {
         let why = reason(*fault).unwrap_or("no reason is known");
         println!("{:<32} {why}  ({})", format!("{fault:?}"), fault.meaning());
     }
@@ -63,12 +65,19 @@ pub fn show(directory: &str) -> Result<usize, String> {
 }
 
 fn reason(fault: Fault) -> Option<&'static str> {
-    if fault.is_of_bench() {
-        return Some(BENCH);
-    }
     let mut all = UNNOTICED.iter().chain(&super::UNSEEN);
     all.find(|(unnoticed, _)| *unnoticed == fault)
         .map(|(_, why)| *why)
+        .or(elsewhere(fault))
+}
+
+/// The reason for the faults of all that is not a trace.
+fn elsewhere(fault: Fault) -> Option<&'static str> {
+    match (fault.is_of_bench(), fault.is_of_view()) {
+        (true, _) => Some(BENCH),
+        (_, true) => Some(VIEW),
+        _ => None,
+    }
 }
 
 /// The vectors of each profile. Each must be what the right model gives, or it would seem to notice everything.
