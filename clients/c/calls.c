@@ -63,6 +63,7 @@ static void refused_buffers(void) {
  */
 enum { NULLS = 6 };
 
+/* Views of both regions with NULL for the cells, for the identification page, or for both. */
 static void null_views(size_t device, int no_cells, int no_page) {
     size_t number = no_cells ? M95_REFUSED_CELLS : no_page ? M95_REFUSED_IDENTIFICATION : M95_DONE;
     for (size_t region = M95_REGION_CELLS; region <= M95_REGION_IDENTIFICATION; region++) {
