@@ -130,10 +130,10 @@ is-bench device cells identification latch {w} trace answers z ew el ez ep =
     ep ∙ rw (ez, el, e)
 
 -- What the first two devices need of the room.
-pub room : (device : ℕ) {row : Row} → row ≡ rowOf device → 1 ≤ device → device ≤ 2 → (row .cells ≤ 16_384) × (row .page ≤ 64)
+pub room : (device : ℕ) {row : Row} → row ≡ rowOf device → 1 ≤ device → device ≤ 2 → (row .cells ≤ 16_384) × (row .page ≤ 64) × (row .identification ≤ 64)
 room zero e a b = absurd (omega arith)
-room (suc zero) e a b = rw e (lit≤ tt, lit≤ tt)
-room (suc (suc zero)) e a b = rw e (lit≤ tt, lit≤ tt)
+room (suc zero) e a b = rw e (lit≤ tt, lit≤ tt, lit≤ tt)
+room (suc (suc zero)) e a b = rw e (lit≤ tt, lit≤ tt, lit≤ tt)
 room (suc (suc (suc d))) e a b = absurd (omega arith)
 
 -- A run of the bench: how many records it can have done, and that its state's status is a byte.

@@ -34,8 +34,8 @@ pub fn address_bit(address: usize, k: usize) -> bool
     address >> k & 1 == 1
 }
 
-// A code without its bit 3, which is A8 where the address is one byte.
-pub fn without_a8(code: u8) -> u8
+// A code without its bit 3, which is no part of it where the address is one byte.
+pub fn without_bit_3(code: u8) -> u8
     ensures { λ r. ⌜ r ≡ code - number (bit code 3) * 8 ⌝ }
 {
     code & 0xF7

@@ -16,6 +16,24 @@ fn prepares() {
     check::expect(bad.number == 1);
 }
 
+// An M95010 has no identification page: it is prepared with an empty slice.
+fn prepares_smaller() {
+    let mut cells = [0u8; 128];
+    let mut none = [0u8; 0];
+    let mut latch = [0u8; 32];
+    let good = m95::prepare(5, &mut cells, &mut none, &mut latch);
+    check::expect(good.number == 0);
+}
+
+// A page that is lent for it all the same is refused with 3.
+fn refuses_a_page() {
+    let mut cells = [0u8; 128];
+    let mut page = [0u8; 16];
+    let mut latch = [0u8; 32];
+    let bad = m95::prepare(5, &mut cells, &mut page, &mut latch);
+    check::expect(bad.number == 3);
+}
+
 // A view of the cells shows the page that holds address 40, and an address past them is refused with 13.
 fn views_cells() {
     let cells = [0u8; 512];
@@ -130,7 +148,7 @@ fn judges() {
     let state = m95::prepared_state();
     let good = m95::world_refused(1, state, &cells, &identification, &latch);
     check::expect(good == 0);
-    let none = m95::world_refused(5, state, &cells, &identification, &latch);
+    let none = m95::world_refused(8, state, &cells, &identification, &latch);
     check::expect(none == 1);
 }
 
@@ -157,6 +175,8 @@ fn loads() {
 
 fn main() {
     prepares();
+    prepares_smaller();
+    refuses_a_page();
     loads();
     judges();
     tells_status();

@@ -14,19 +14,20 @@ use Rattle.rules.specs.declared.Change.{Change}
 use Rattle.rules.specs.declared.Facts.{Facts}
 use Rattle.rules.specs.declared.State.{State}
 use Rattle.rules.specs.World.{if_then_else_}
+use Rattle.rules.specs.Device.{hasIdentification}
 use Rattle.rules.specs.Instruction.{facts, changes, busy}
 use Rattle.rules.specs.Judge.{storable}
-use Rattle.rules.specs.Sound.{_implies_, isZ, all, areMarks, receivedClauses, cycleClauses, restingClauses, selectedClauses, clauses, isSound}
+use Rattle.rules.specs.Sound.{_implies_, isZ, all, areMarks, receivedClauses, cycleClauses, restingClauses, selectedClauses, pageClauses, clauses, isSound}
 
 all-append : (a b : List Bool) → all (a ++ b) ≡ (all a && all b)
 all-append [] b = refl
 all-append (x ∷ a) b = ap (λ (t : Bool). x && t) (all-append a b) ∙ sym (and-assoc x (all a) (all b))
 
-pub all-sound : (row : Row) (s : State) (latch : List ℕ) {a b c d e : Bool} → a ≡ all (receivedClauses row s) → b ≡ all (cycleClauses row s) → c ≡ all (restingClauses s)
-    → d ≡ all (selectedClauses s)
-    → e ≡ areMarks (drop (row .page) latch) → (a && b && c && d && e) ≡ isSound row s latch
+pub all-sound : (row : Row) (s : State) (latch : List ℕ) {a b c d e f : Bool} → a ≡ all (receivedClauses row s) → b ≡ all (cycleClauses row s) → c ≡ all (restingClauses s)
+    → d ≡ all (selectedClauses s) → e ≡ all (pageClauses row s)
+    → f ≡ areMarks (drop (row .page) latch) → (a && b && c && d && e && f) ≡ isSound row s latch
 unfolding isSound clauses
-all-sound row s latch ea eb ec ed ee = rw (ea, eb, ec, ed, ee) (simp (and-assoc, and-true))
+all-sound row s latch ea eb ec ed ee ef = rw (ea, eb, ec, ed, ee, ef) (simp (and-assoc, and-true))
 
 module _ (row : Row) (s : State) where
   pub received-none : 7 < s .input .bits → false ≡ all (receivedClauses row s)
@@ -61,3 +62,8 @@ selected-all s ea eb ef er ec ed = rw (ea, eb, ec, ed, er, ef) (simp (and-assoc,
 
 pub one-shifted : (b : ℕ) → b ≤ 7 → 1 * 2 ^ b % 18446744073709551616 ≡ 2 ^ b
 one-shifted b h = let small : 2 ^ b ≤ 2 ^ 7 = pow-mono h in mod-eq-of-lt (omega arith) ∙ one-mul (2 ^ b)
+
+pub page-all : (row : Row) (s : State) {f : Facts} {k : Change} {there a b c : Bool} → there ≡ hasIdentification row → k ≡ changes (s .cycle .kind)
+    → f ≡ facts (s .command .instruction) → a ≡ (s .registers .locked implies there) → b ≡ (k .identification || k .lock implies there)
+    → c ≡ (f .identifies implies there) → (a && b && c) ≡ all (pageClauses row s)
+page-all row s et ek ef ea eb ec = rw (ea, eb, ec, et, ek, ef) (simp (and-assoc, and-true))

@@ -179,7 +179,7 @@ pub fn clock(
     high: bool,
 ) -> State
     requires { ⌜ (Widths row) × (SoundInput (s .input)) × (s .place .address < row .cells) × (storable row (s .registers .status) ≡ s .registers .status) ⌝ }
-    requires { ⌜ (length (now cells) ≡ row .cells) × (length (now identification) ≡ row .page) × (length (now latch) ≡ row .page + row .page) ⌝ }
+    requires { ⌜ (length (now cells) ≡ row .cells) × (length (now identification) ≡ row .identification) × (length (now latch) ≡ row .page + row .page) ⌝ }
     ensures { λ r. ⌜
         worldOf r (now (cells .entry)) (now (identification .entry)) (now (latch .exit))
         ≡ step row (Event.Clock high) (worldOf s (now (cells .entry)) (now (identification .entry)) (now (latch .entry))) ⌝ }

@@ -5,7 +5,7 @@ ghost use mathlib.Core.Bool.{_&&_};
 ghost use Prim.Native.Nat.{_+_};
 ghost use lib.ListN.{length};
 ghost use Rattle.rules.specs.Device.{Widths};
-ghost use Rattle.rules.specs.Sound.{_implies_, all, isZ, receivedClauses, cycleClauses, restingClauses, selectedClauses, isSound};
+ghost use Rattle.rules.specs.Sound.{_implies_, all, isZ, receivedClauses, cycleClauses, restingClauses, selectedClauses, pageClauses, isSound};
 ghost use Rattle.rules.specs.World.{if_then_else_};
 ghost use Rattle.rules.specs.Instruction.{busy};
 ghost use lib.Dec.{eqb, leb};
@@ -100,6 +100,22 @@ pub fn selected_sound(s: State) -> bool
         & implies(on, s.pins.c | (s.selection.held == !s.pins.hold))
 }
 
+// Without an identification page there is no lock, no cycle of that page, and no instruction of it.
+pub fn page_sound(row: Row, s: State) -> bool
+    ensures { λ r. ⌜ r ≡ all (pageClauses row s) ⌝ }
+{
+    let there = tables::has_identification(row);
+    let cycle = s.cycle;
+    let kind = cycle.kind;
+    let change = tables::changes(kind);
+    let command = s.command;
+    let i = command.instruction;
+    let f = tables::facts(i);
+    implies(s.registers.locked, there)
+        & implies(change.identification | change.lock, there)
+        & implies(f.identifies, there)
+}
+
 // Every clause, and the marks.
 pub fn is_sound(row: Row, s: State, latch: &[u8]) -> bool
     requires { ⌜ (Widths row) × (length (now latch) ≡ row .page + row .page) ⌝ }
@@ -109,5 +125,6 @@ pub fn is_sound(row: Row, s: State, latch: &[u8]) -> bool
         & cycle_sound(row, s)
         & resting_sound(s)
         & selected_sound(s)
+        & page_sound(row, s)
         & memory::latch_is_marked(row, latch)
 }

@@ -10,23 +10,23 @@ use borrow.Author.Tests.{eq-eqb, ne-eqb, le-leb, lt-ltb, le-ltb}
 use Rattle.rules.specs.declared.Row.{Row}
 use Rattle.rules.specs.declared.State.{State}
 use Rattle.rules.specs.declared.Stored.{Stored}
-use Rattle.rules.specs.World.{if_then_else_, worldOf, withStored}
-use Rattle.rules.specs.Device.{isDevice, rowOf, code, preparedState, prepared}
+use Rattle.rules.specs.World.{if_then_else_, number, worldOf, withStored}
+use Rattle.rules.specs.Device.{table, isDevice, rowOf, hasIdentification, code, preparedState, prepared}
 use Rattle.rules.specs.Judge.{storable}
 use Rattle.rules.specs.Sound.{Lent}
 use Rattle.rules.specs.Call.{memoryRefusal, lentRefusal, preparedAs, prepareOutcome, poweredWith, loadedAs, loadOutcome}
 use Rattle.rules.proofs.Program.{lent-facts}
 
--- A number from 1 to 4 is a device's.
-pub a-device : (device : ℕ) → 1 ≤ device → device ≤ 4 → isDevice device ≡ true
-a-device device a b = rw (le-leb 1 device a, le-leb device 4 b)
+-- A number from 1 to that of the table's rows is a device's.
+pub a-device : (device : ℕ) → 1 ≤ device → device ≤ length table → isDevice device ≡ true
+a-device device a b = rw (le-leb 1 device a, le-leb device (length table) b)
 
 -- The lent buffers.
-pub page-at : (device : ℕ) (row : Row) → row ≡ rowOf device → rowOf device .page ≡ row .page
-page-at device row er = ap (λ (x : Row). x .page) (sym er)
+pub identification-at : (device : ℕ) (row : Row) → row ≡ rowOf device → rowOf device .identification ≡ row .identification
+identification-at device row er = ap (λ (x : Row). x .identification) (sym er)
 
 pub memory-wrong : (device : ℕ) (row : Row) (d : Bool) → row ≡ rowOf device → d ≡ isDevice device → (cells identification : List ℕ) (n : ℕ)
-    → n ≡ (if not d then 1 else if not (eqb (length cells) (row .cells)) then 2 else if not (eqb (length identification) (row .page)) then 3 else 0)
+    → n ≡ (if not d then 1 else if not (eqb (length cells) (row .cells)) then 2 else if not (eqb (length identification) (row .identification)) then 3 else 0)
     → n ≡ memoryRefusal device cells identification
 unfolding memoryRefusal
 memory-wrong device row d er ed cells identification n e = e ∙ rw (ed, er)
@@ -46,10 +46,10 @@ module _ (device : ℕ) (cells identification latch : List ℕ) (n : ℕ) (en : 
     lent-whole a = rw (← en, z, ← er, eq-eqb (length latch) (row .page + row .page) a)
 
 pub lent-room : (device : ℕ) (row : Row) → row ≡ rowOf device → isDevice device ≡ true → (cells identification latch : List ℕ) → length cells ≡ row .cells
-    → length identification ≡ row .page → length latch ≡ row .page + row .page → lentRefusal device cells identification latch ≡ 0
+    → length identification ≡ row .identification → length latch ≡ row .page + row .page → lentRefusal device cells identification latch ≡ 0
 unfolding lentRefusal memoryRefusal
 lent-room device row e d cells identification latch ec ei el =
-    rw (d, ← e, eq-eqb (length cells) (row .cells) ec, eq-eqb (length identification) (row .page) ei, eq-eqb (length latch) (row .page + row .page) el)
+    rw (d, ← e, eq-eqb (length cells) (row .cells) ec, eq-eqb (length identification) (row .identification) ei, eq-eqb (length latch) (row .page + row .page) el)
 
 pub lent-fine : (device : ℕ) (s : State) (cells identification latch : List ℕ) → lentRefusal device cells identification latch ≡ 0 → Lent (rowOf device) (worldOf s cells identification latch)
 lent-fine device s cells identification latch e = lent-facts device (worldOf s cells identification latch) e .1
@@ -61,7 +61,7 @@ module _ (device : ℕ) (s : State) (cells identification latch : List ℕ) (n :
   prepare-refused z = rw (← en, ne-eqb n 0 z, es)
 
   pub prepare-done : (row : Row) (c i l : List ℕ) → n ≡ 0 → row ≡ rowOf device → c ≡ replicate (length cells) 0xFF
-      → i ≡ code row ++ replicate (row .page - length (code row)) 0xFF → l ≡ replicate (length latch) 0 → preparedAs 0 (worldOf s c i l) ≡ prepareOutcome device cells identification latch
+      → i ≡ code row ++ replicate (row .identification - length (code row)) 0xFF → l ≡ replicate (length latch) 0 → preparedAs 0 (worldOf s c i l) ≡ prepareOutcome device cells identification latch
   unfolding prepareOutcome prepared
   prepare-done row c i l z er ec ei el =
       let k = lent-fine device s cells identification latch (sym en ∙ z) in
@@ -80,13 +80,13 @@ module _ (device : ℕ) (x : Stored) (row : Row) (d : Bool) (er : row ≡ rowOf 
     load-bits a = rw (← ed, h, ← er, ← eb, ne-eqb b (x .status) a)
 
     module _ (a : b ≡ x .status) where
-      pub load-lock : 1 < x .lock → 5 ≡ loadOutcome device x .number
+      pub load-lock : number (hasIdentification row) < x .lock → 5 ≡ loadOutcome device x .number
       unfolding loadOutcome
-      load-lock l = rw (← ed, h, ← er, ← eb, eq-eqb b (x .status) a, lt-ltb 1 (x .lock) l)
+      load-lock l = rw (← ed, h, ← er, ← eb, eq-eqb b (x .status) a, lt-ltb (number (hasIdentification row)) (x .lock) l)
 
-      pub load-whole : x .lock ≤ 1 → 0 ≡ loadOutcome device x .number
+      pub load-whole : x .lock ≤ number (hasIdentification row) → 0 ≡ loadOutcome device x .number
       unfolding loadOutcome
-      load-whole l = rw (← ed, h, ← er, ← eb, eq-eqb b (x .status) a, le-ltb 1 (x .lock) l)
+      load-whole l = rw (← ed, h, ← er, ← eb, eq-eqb b (x .status) a, le-ltb (number (hasIdentification row)) (x .lock) l)
 
 -- Loading.
 module _ (device : ℕ) (x : Stored) (n : ℕ) (en : n ≡ loadOutcome device x .number) (s : State) (es : s ≡ preparedState) where

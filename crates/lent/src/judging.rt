@@ -28,7 +28,7 @@ pub fn memory_refused(device: u8, cells: &[u8], identification: &[u8]) -> usize
     first_wrong(
         !tables::is_device(device),
         cells.len() != row.cells,
-        identification.len() != row.page,
+        identification.len() != row.identification,
     )
 }
 

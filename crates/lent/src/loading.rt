@@ -8,7 +8,8 @@ use rules::Registers;
 use rules::State;
 use rules::Stored;
 
-// 1 where there is no such device, 5 where it has not these bits, or no lock is so. 0 otherwise.
+// 1 where there is no such device, 5 where it has not these bits, or no lock is so: 1 is the most, and 0 where there is no page to lock.
+// 0 otherwise.
 fn stored_refused(device: u8, stored: Stored) -> usize
     ensures { λ r. ⌜ r ≡ loadOutcome device stored .number ⌝ }
 {
@@ -20,7 +21,8 @@ fn stored_refused(device: u8, stored: Stored) -> usize
     if bits != stored.status {
         return 5;
     }
-    if 1 < stored.lock {
+    let most = tables::has_identification(row) as u8;
+    if most < stored.lock {
         return 5;
     }
     0

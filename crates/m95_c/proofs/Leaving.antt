@@ -34,10 +34,10 @@ none-taken none n h = rw (lt-leb n 255 h)
 
 -- The sizes.
 module _ (n : ℕ) {d : ℕ} (ed : d ≡ deviceOf n) {row : Row} (er : row ≡ rowOf d) {t : Bool} (et : t ≡ isDevice d) where
-  pub sizes-told : t ≡ true → sizesAs (row .cells) (row .page) ≡ sizesOf n
+  pub sizes-told : t ≡ true → sizesAs (row .cells) (row .page) (row .identification) ≡ sizesOf n
   sizes-told h = rw (← ed, ← et, h, er)
 
-  pub sizes-none : t ≡ false → sizesAs 0 0 ≡ sizesOf n
+  pub sizes-none : t ≡ false → sizesAs 0 0 0 ≡ sizesOf n
   sizes-none h = rw (← ed, ← et, h)
 
 -- Preparing.

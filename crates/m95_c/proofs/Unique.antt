@@ -13,6 +13,9 @@ unique-cells device e f = unique e f
 pub unique-page : {x y : ℕ} (device : ℕ) → x ≡ sizesOf device .page → y ≡ sizesOf device .page → x ≡ y
 unique-page device e f = unique e f
 
+pub unique-identification : {x y : ℕ} (device : ℕ) → x ≡ sizesOf device .identification → y ≡ sizesOf device .identification → x ≡ y
+unique-identification device e f = unique e f
+
 pub unique-refusal : {x y : ℕ} (device : ℕ) (b : Buffers) → x ≡ buffersRefusal device b → y ≡ buffersRefusal device b → x ≡ y
 unique-refusal device b = unique
 

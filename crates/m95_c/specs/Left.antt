@@ -15,12 +15,12 @@ use Rattle.m95_c.specs.StateBytes.{stateLength, isState, stateOf, stateA
 abbrev pub deviceOf : ℕ → ℕ
 deviceOf n = if leb n 255 then n else 0
 
--- How many cells a device has, and how many bytes a page: 0 and 0 for a number that is no device's.
-abbrev pub sizesAs : ℕ → ℕ → Sizes
-sizesAs cells page = record { cells = cells; page = page }
+-- How many cells a device has, how many bytes a page, and how many its identification page: all 0 for a number that is no device's.
+abbrev pub sizesAs : ℕ → ℕ → ℕ → Sizes
+sizesAs cells page identification = record { cells = cells; page = page; identification = identification }
 
 abbrev pub sizesOf : ℕ → Sizes
-sizesOf n = let row = rowOf (deviceOf n) in if isDevice (deviceOf n) then sizesAs (row .cells) (row .page) else sizesAs 0 0
+sizesOf n = let row = rowOf (deviceOf n) in if isDevice (deviceOf n) then sizesAs (row .cells) (row .page) (row .identification) else sizesAs 0 0 0
 
 -- The buffers lent to a call: the state's bytes, and those of the device.
 pub record Buffers : Type 0 where

@@ -10,13 +10,14 @@ use crate::reading::state_of;
 use lent::judging::memory_refused;
 use rules::Region;
 
-// How many cells a device has, and how many bytes a page of it.
+// How many cells a device has, how many bytes a page of it, and how many its identification page, which may have none.
 pub struct Sizes {
     pub cells: usize,
     pub page: usize,
+    pub identification: usize,
 }
 
-// A device's sizes; 0 and 0 where there is no such device.
+// A device's sizes; all 0 where there is no such device.
 fn sizes_of(device: usize) -> Sizes
     ensures { λ r. ⌜ r ≡ sizesOf device ⌝ }
 {
@@ -26,9 +27,14 @@ fn sizes_of(device: usize) -> Sizes
         return Sizes {
             cells: row.cells,
             page: row.page,
+            identification: row.identification,
         };
     }
-    Sizes { cells: 0, page: 0 }
+    Sizes {
+        cells: 0,
+        page: 0,
+        identification: 0,
+    }
 }
 
 #[no_mangle]
@@ -45,6 +51,14 @@ pub extern "C" fn m95_page(device: usize) -> usize
 {
     let sizes = sizes_of(device);
     sizes.page
+}
+
+#[no_mangle]
+pub extern "C" fn m95_identification(device: usize) -> usize
+    ensures { λ r. ⌜ r ≡ sizesOf device .identification ⌝ }
+{
+    let sizes = sizes_of(device);
+    sizes.identification
 }
 
 // The byte that RDSR would send in a state, sound or not.

@@ -35,9 +35,13 @@ module _ (marks : List ℕ) (n : ℕ) (h : n < length marks) where
 three : (m : ℕ) → set {A = ℕ} (set (set (replicate (suc (suc (suc m))) 0xFF) 0 0x20) 1 0x00) 2 0x12 ≡ 0x20 ∷ 0x00 ∷ 0x12 ∷ replicate m 0xFF
 three m = refl
 
-pub with-code : (row : Row) (n : ℕ) → row .coded ≡ true → 4 ≤ n → set {A = ℕ} (set (set (replicate n 0xFF) 0 0x20) 1 0x00) 2 0x12 ≡ code row ++ replicate (n - length (code row)) 0xFF
+-- Where there is a code it has three bytes, and a page that it fits into as many.
+pub code-room : (row : Row) {n : ℕ} → row .coded ≡ true → length (code row) ≤ n → 3 ≤ n
+code-room row e h = rw e at h
+
+pub with-code : (row : Row) (n : ℕ) → row .coded ≡ true → length (code row) ≤ n → set {A = ℕ} (set (set (replicate n 0xFF) 0 0x20) 1 0x00) 2 0x12 ≡ code row ++ replicate (n - length (code row)) 0xFF
 with-code row n e h =
-    let f : suc (suc (suc (n - 3))) ≡ n = omega arith in
+    let f : suc (suc (suc (n - 3))) ≡ n = omega (arith, code-room row e h) in
     rw e (subst (λ (k : ℕ). set {A = ℕ} (set (set (replicate k 0xFF) 0 0x20) 1 0x00) 2 0x12 ≡ 0x20 ∷ 0x00 ∷ 0x12 ∷ replicate (n - 3) 0xFF) f (three (n - 3)))
 
 pub without-code : (row : Row) (n : ℕ) → row .coded ≡ false → replicate {A = ℕ} n 0xFF ≡ code row ++ replicate (n - length (code row)) 0xFF

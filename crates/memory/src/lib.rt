@@ -21,8 +21,8 @@ pub fn fill(bytes: &mut [u8], value: u8)
 
 // The identification page of a prepared device: FFh, after ST's code where there is one.
 pub fn prepare_identification(row: Row, page: &mut [u8])
-    requires { ⌜ (Widths row) × (length (now page) ≡ row .page) ⌝ }
-    ensures { λ _. ⌜ now (page .exit) ≡ code row ++ replicate (row .page - length (code row)) 0xFF ⌝ }
+    requires { ⌜ (Widths row) × (length (now page) ≡ row .identification) ⌝ }
+    ensures { λ _. ⌜ now (page .exit) ≡ code row ++ replicate (row .identification - length (code row)) 0xFF ⌝ }
 {
     fill(page, 0xFF);
     if row.coded {

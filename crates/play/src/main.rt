@@ -14,7 +14,9 @@ use words::is_twice;
 fn play(word: &[u8], chip: &[u8], trace: &[u8], answers: &[u8], new: &[u8]) {
     let device = device_named(word);
     if device == 0 {
-        complain(b"play: DEVICE is 1 (M95040), 2 (M95128), 3 (M95M01) or 4 (M95M02)\n");
+        complain(
+            b"play: DEVICE is 1 (M95040), 2 (M95128-D), 3 (M95M01), 4 (M95M02), 5 (M95010), 6 (M95020) or 7 (M95128)\n",
+        );
         return;
     }
     if (chip.len() == 0) | (trace.len() == 0) | (answers.len() == 0) | (new.len() == 0) {

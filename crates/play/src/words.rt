@@ -1,22 +1,25 @@
 // The words that play is called with.
 
-ghost use Prim.Native.Nat.{_≤_};
+ghost use mathlib.Core.Bool.{true};
+ghost use mathlib.Core.Path.{_≡_};
+ghost use Rattle.rules.specs.Device.{isDevice};
 
-// The device that a word names: one digit, 1 to 4. 0 for any other word.
+// The device that a word names: its number, in one digit. 0 for any other word.
 pub fn device_named(word: &[u8]) -> u8
-    ensures { λ r. ⌜ r ≤ 4 ⌝ }
+    ensures { λ r. ⌜ ((r ≡ 0 → ⊥) → isDevice r ≡ true) ⌝ }
 {
     if word.len() != 1 {
         return 0;
     }
     let digit = word[0];
-    if digit < b'1' {
+    if digit < b'0' {
         return 0;
     }
-    if b'4' < digit {
-        return 0;
+    let device = digit - b'0';
+    if tables::is_device(device) {
+        return device;
     }
-    digit - b'0'
+    0
 }
 
 // Whether two names are the same.

@@ -12,6 +12,7 @@ use Rattle.rules.specs.declared.Row.{Row}
 use Rattle.rules.specs.declared.Stored.{Stored}
 use Rattle.rules.specs.World.{World}
 use Rattle.rules.specs.Device.{Widths, rowOf}
+use Rattle.rules.proofs.Widths.{identification-short}
 use Rattle.rules.specs.Trace.{Progress}
 use Rattle.rules.specs.Call.{worldRefusal, storedAs, runOutcome}
 use Rattle.rules.proofs.Program.{world-taken, world-facts}
@@ -22,8 +23,8 @@ use Rattle.player.specs.declared.contents.Said.{Said}
 use Rattle.player.specs.File.{saidAs, said}
 
 -- The length of a chip's file fits.
-pub file-fits : {row : Row} → Widths row → row .cells + row .page + 2 < 2 ^ 26
-file-fits v = omega (arith, v .cellsMost, v .pageMost)
+pub file-fits : {row : Row} → Widths row → row .cells + row .identification + 2 < 2 ^ 26
+file-fits v = omega (arith, v .cellsMost, v .pageMost, identification-short v)
 
 -- A chip's file.
 module _ (row : Row) (n : ℕ) (x : Stored) where
@@ -32,13 +33,13 @@ module _ (row : Row) (n : ℕ) (x : Stored) where
   said-raw r e h = e ∙ rw (eq-eqb n (row .cells) h)
 
   module _ (a : n ≡ row .cells → ⊥) where
-    pub said-length : (r : Said) → r ≡ saidAs Fault.Length (storedAs 0 0) → (n ≡ row .cells + row .page + 2 → ⊥) → r ≡ said row n x
+    pub said-length : (r : Said) → r ≡ saidAs Fault.Length (storedAs 0 0) → (n ≡ row .cells + row .identification + 2 → ⊥) → r ≡ said row n x
     unfolding said
-    said-length r e h = e ∙ rw (ne-eqb n (row .cells) a, ne-eqb n (row .cells + row .page + 2) h)
+    said-length r e h = e ∙ rw (ne-eqb n (row .cells) a, ne-eqb n (row .cells + row .identification + 2) h)
 
-    pub said-whole : n ≡ row .cells + row .page + 2 → saidAs Fault.None x ≡ said row n x
+    pub said-whole : n ≡ row .cells + row .identification + 2 → saidAs Fault.None x ≡ said row n x
     unfolding said
-    said-whole h = rw (ne-eqb n (row .cells) a, eq-eqb n (row .cells + row .page + 2) h)
+    said-whole h = rw (ne-eqb n (row .cells) a, eq-eqb n (row .cells + row .identification + 2) h)
 
 -- The bytes that are kept, i of them so far.
 abbrev pub moved : List ℕ → ℕ → ℕ → List ℕ

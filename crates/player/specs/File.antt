@@ -16,5 +16,5 @@ saidAs fault stored = record { fault = fault; stored = stored }
 unfoldable pub said : Row → ℕ → Stored → Said
 said row length stored =
     if eqb length (row .cells) then saidAs Fault.None (storedAs 0 0)
-    else if not (eqb length (row .cells + row .page + 2)) then saidAs Fault.Length (storedAs 0 0)
+    else if not (eqb length (row .cells + row .identification + 2)) then saidAs Fault.Length (storedAs 0 0)
     else saidAs Fault.None stored

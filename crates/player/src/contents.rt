@@ -39,7 +39,7 @@ fn judged(row: Row, length: usize, stored: Stored) -> Said
     if length == row.cells {
         return silent(Fault::None);
     }
-    if length != row.cells + row.page + 2 {
+    if length != row.cells + row.identification + 2 {
         return silent(Fault::Length);
     }
     Said {
@@ -50,7 +50,7 @@ fn judged(row: Row, length: usize, stored: Stored) -> Said
 
 // Reads the cells, the identification page and the two last bytes, and looks for one byte more.
 fn read_said(row: Row, fd: i32, cells: &mut [u8], identification: &mut [u8]) -> Said
-    requires { ⌜ (Widths row) × (length (now cells) ≡ row .cells) × (length (now identification) ≡ row .page) ⌝ }
+    requires { ⌜ (Widths row) × (length (now cells) ≡ row .cells) × (length (now identification) ≡ row .identification) ⌝ }
 {
     let first = files::read_up(fd, cells);
     let second = files::read_up(fd, identification);
@@ -68,7 +68,7 @@ fn read_said(row: Row, fd: i32, cells: &mut [u8], identification: &mut [u8]) -> 
 
 // The contents of the file at a path; as prepared where there is none.
 pub fn load(row: Row, path: &[u8], cells: &mut [u8], identification: &mut [u8]) -> Said
-    requires { ⌜ (Widths row) × (length (now cells) ≡ row .cells) × (length (now identification) ≡ row .page) ⌝ }
+    requires { ⌜ (Widths row) × (length (now cells) ≡ row .cells) × (length (now identification) ≡ row .identification) ⌝ }
 {
     let fd = os::open_read(path);
     if fd < 0 {

@@ -25,7 +25,7 @@ module _ (device : ℕ) (cells identification latch : List ℕ) (z : lentRefusal
   ready-lent : Lent (rowOf device) (worldOf s c i l)
   ready-lent = subst (Lent (rowOf device)) (sym ready) (prepared-lent (of-device device))
 
-  pub load-fits : (row : Row) → row ≡ rowOf device → Widths row × (length c ≡ row .cells) × (length i ≡ row .page)
+  pub load-fits : (row : Row) → row ≡ rowOf device → Widths row × (length c ≡ row .cells) × (length i ≡ row .identification)
   load-fits row e = rw e (of-device device, ready-lent .cells, ready-lent .identification)
 
   pub loaded : (x : Stored) (m : ℕ) (t : State) (c′ i′ : List ℕ) → loadedAs m t ≡ loadOutcome device x → m ≡ 0 → length c′ ≡ length c → length i′ ≡ length i

@@ -4,7 +4,9 @@ ghost use Prim.Native.Nat.{_≤_};
 ghost use mathlib.Core.Path.{_≡_};
 ghost use lib.ListN.{length};
 ghost use Rattle.io.specs.Counts.{Counts};
+ghost use mathlib.Core.Bool.{true};
 ghost use Rattle.rules.specs.World.{worldOf};
+ghost use Rattle.rules.specs.Device.{isDevice};
 ghost use Rattle.rules.specs.Call.{lentRefusal, worldRefusal};
 use crate::chip::replace;
 use crate::say::complain;
@@ -169,7 +171,7 @@ fn play_lent(
     let loaded = m95::load(device, said.stored);
     if loaded.number != 0 {
         complain(
-            b"play: CHIP's last two bytes: its status byte has bits that the device has not, or its lock byte is neither 0 nor 1\n",
+            b"play: CHIP's last two bytes: its status byte has bits that the device has not, or its lock byte is neither 0 nor, where the device has an identification page, 1\n",
         );
         return;
     }
@@ -188,19 +190,20 @@ fn play_lent(
 
 // Plays the trace on a device, in as much of the room as it has cells and pages.
 pub fn play_device(device: u8, chip: &[u8], trace: &[u8], answers: &[u8], new: &[u8])
-    requires { ⌜ (1 ≤ device) × (device ≤ 4) ⌝ }
+    requires { ⌜ isDevice device ≡ true ⌝ }
 {
     let mut cells = [0xFFu8; 262144];
     let mut identification = [0u8; 256];
     let mut latch = [0u8; 512];
     let row = tables::row_of(device);
     let room = row.cells;
+    let identified = row.identification;
     let page = row.page;
     let both = page + page;
     play_lent(
         device,
         &mut cells[..room],
-        &mut identification[..page],
+        &mut identification[..identified],
         &mut latch[..both],
         chip,
         trace,

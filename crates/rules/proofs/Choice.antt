@@ -6,7 +6,7 @@ use mathlib.Core.List.{List, [], _∷_}
 use native.Mathlib.Omega.{arith}
 use lib.Dec.{eqb}
 use Rattle.rules.specs.World.{if_then_else_, number}
-use Rattle.rules.specs.Sound.{all}
+use Rattle.rules.specs.Sound.{_implies_, all}
 
 -- A choice has a property if each side has it under its test.
 pub if-elim {ℓ κ} : {A : Type ℓ} (P : A → Type κ) (b : Bool) {x y : A} → (b ≡ true → P x) → (b ≡ false → P y) → P (if b then x else y)
@@ -70,10 +70,19 @@ pub or-first : (a b : Bool) → (a || b) ≡ true → b ≡ false → a ≡ true
 or-first true b e f = refl
 or-first false b e f = clash (sym e ∙ f)
 
+-- What follows from each of two follows from one of them.
+pub or-elim {ℓ} : {A : Type ℓ} (a b : Bool) → (a ≡ true → A) → (b ≡ true → A) → (a || b) ≡ true → A
+or-elim true b f g e = f refl
+or-elim false b f g e = g e
+
 -- What holds by one of two holds by one of two weaker ones.
 pub or-map : (a b c : Bool) → (b ≡ true → c ≡ true) → (a || b) ≡ true → (a || c) ≡ true
 or-map true b c f e = refl
 or-map false b c f e = f e
+
+pub implied : (a b : Bool) → (a implies b) ≡ true → a ≡ true → b ≡ true
+implied true b e f = e
+implied false b e f = clash (sym f)
 
 -- A list of tests that all hold is a fact for each, and the other way round.
 abbrev pub Hold : List Bool → Type 0

@@ -1,14 +1,14 @@
 -- The theorem `incident`: the incident is an instance of demand 3; and a prepared device is sound, so that demand 3 holds from there.
-use Prim.Native.Nat.{ℕ, zero, suc, _+_, _*_, _≤_}
+use Prim.Native.Nat.{ℕ, zero, suc, _+_, _*_, _/_, _%_}
 use mathlib.Core.Path.{_≡_, refl, sym}
-use mathlib.Core.Bool.{Bool, true, false}
+use mathlib.Core.Bool.{Bool, true, false, _&&_}
 use mathlib.Core.List.{List, [], _∷_, _++_}
 use native.Mathlib.Nat.{zero-mod}
 use native.Mathlib.Omega.{arith}
 use lib.ListN.{length, length-append, length-replicate}
 use lib.Dec.{lit<}
-use Rattle.rules.specs.World.{Row, Event, World, if_then_else_, bit}
-use Rattle.rules.specs.Device.{Widths, m95128, prepared}
+use Rattle.rules.specs.World.{Row, Event, World, bit, number}
+use Rattle.rules.specs.Device.{Widths, m95128d, prepared}
 use Rattle.rules.specs.Judge.{storable}
 use Rattle.rules.specs.Event.{next, after}
 use Rattle.rules.specs.Sound.{Sound, Lent}
@@ -30,6 +30,7 @@ prepared-sound {row} v =
             input = record { few = omega arith; small = lit< tt; counted = omega arith };
             inside = omega (arith, page-below v);
             stored = nothing (row .srwd);
+            page = record { lockable = λ e. clash (sym e); named = λ e. clash (sym e) };
             cycle =
                 record {
                   only = nothing (row .srwd);
@@ -38,6 +39,7 @@ prepared-sound {row} v =
                   aligned = zero-mod (row .page);
                   inside = omega (arith, page-below v);
                   first = λ _. refl;
+                  paged = λ e. clash (sym e);
                 };
             off = λ _. record { held = refl; bits = refl; bytes = refl; z = refl };
             low = λ e. clash (sym e);
@@ -48,7 +50,7 @@ prepared-sound {row} v =
       holds = λ e. clash (sym e);
     }
   where
-    nothing : (b : Bool) → storable (record { cells = row .cells; page = row .page; width = row .width; time = row .time; srwd = b; coded = row .coded }) 0 ≡ 0
+    nothing : (b : Bool) → _≡_ {A = ℕ} (number (b && bit 0 7) * 128 + 0 / 4 % 4 * 4) 0
     nothing true = refl
     nothing false = refl
 
@@ -57,13 +59,9 @@ unfolding prepared
 prepared-lent {row} v =
     record {
       cells = length-replicate (row .cells) 0xFF;
-      identification = simp (length-append, length-replicate) (omega (arith, short (row .coded), v .pageLeast));
+      identification = simp (length-append, length-replicate) (omega (arith, v .codeFits));
       latch = rw length-replicate (omega arith);
     }
-  where
-    short : (b : Bool) → length {A = ℕ} (if b then 0x20 ∷ 0x00 ∷ 0x12 ∷ [] else []) ≤ 3
-    short true = omega arith
-    short false = omega arith
 
 -- Events that are kept one and all.
 keeping : {row : Row} {w : World} {fs ks : List Event} (es : List Event) → Cut row (after row es w) fs ks → Cut row w (es ++ fs) (es ++ ks)
@@ -76,30 +74,30 @@ inside-bits (suc n) b i = input (bit b n) (clock true (clock false (inside-bits 
 
 -- Before the WRITE the device is deselected and S is high; the WRITE has 33 decoded rises.
 before : World
-before = after m95128 enabling (prepared m95128)
+before = after m95128d enabling (prepared m95128d)
 
 begins : (before .state .selection .selected ≡ false) × (before .state .pins .s ≡ true)
 unfolding before opened
 begins = (refl, refl)
 
-bounces : Broken (rises m95128 bounced (next m95128 (Event.Select false) before) 0)
+bounces : Broken (rises m95128d bounced (next m95128d (Event.Select false) before) 0)
 unfolding before opened
 bounces e = let z : _≡_ {A = ℕ} 1 0 = e in absurd (omega arith)
 
 pub incident : Incident
 unfolding before
 incident =
-    keeping {row = m95128} {w = prepared m95128} enabling
+    keeping {row = m95128d} {w = prepared m95128d} enabling
     (drop {w = before} {inner = bounced} {kept = bounced} (begins .0) (begins .1)
     (inside-bits 8 0x02 (inside-bits 8 0x00 (inside-bits 8 0x05 (inside-bits 8 0x66 (inside-bits 1 0 end))))) bounces
-    (keeping {row = m95128} {w = next m95128 (Event.Select true) (after m95128 bounced (next m95128 (Event.Select false) before))} reading done))
+    (keeping {row = m95128d} {w = next m95128d (Event.Select true) (after m95128d bounced (next m95128d (Event.Select false) before))} reading done))
 
 -- So nobody can tell the run with the bouncing WRITE from the one without its Chip Select events.
 pub incident-unseen :
-    let w = prepared m95128 in
+    let w = prepared m95128d in
     (heard incident ≡ heardLeft incident w)
-    × (contents (after m95128 happened w) ≡ contents (after m95128 remaining w))
+    × (contents (after m95128d happened w) ≡ contents (after m95128d remaining w))
 incident-unseen =
     let v = of-device 2 in
-    let r = demand-3 m95128 v (prepared m95128) (prepared-sound v) (prepared-lent v) happened remaining incident in
+    let r = demand-3 m95128d v (prepared m95128d) (prepared-sound v) (prepared-lent v) happened remaining incident in
     (r .0, r .1)

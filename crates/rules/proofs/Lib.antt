@@ -2,6 +2,7 @@
 pub mod Opened
 pub mod Examples
 pub mod Readings
+pub mod Smaller
 pub mod Refusals
 pub mod Unsound
 pub mod Printed

@@ -8,7 +8,7 @@ use lib.ListN.{getD}
 use lib.Dec.{eqb, ltb}
 use borrow.Author.Tests.{eq-eqb, ltb-false, eqb-true, not-false}
 use Rattle.rules.specs.World.{Row, Kind, Level, Pins, Stored, World, Event, if_then_else_, number, worldOf, withState}
-use Rattle.rules.specs.Device.{Widths, isDevice, rowOf, preparedState, prepared}
+use Rattle.rules.specs.Device.{Widths, isDevice, rowOf, hasIdentification, preparedState, prepared}
 use Rattle.rules.specs.Instruction.{changes, busy}
 use Rattle.rules.specs.Judge.{storable}
 use Rattle.rules.specs.Event.{react, step, next}
@@ -16,7 +16,7 @@ use Rattle.rules.specs.Sound.{Sound, Lent}
 use Rattle.rules.specs.Call.{worldRefusal, storedIn, poweredWith, Loaded, loadedAs, loadOutcome}
 use Rattle.rules.specs.Selections.{contents, sights}
 use Rattle.rules.specs.Loaded as spec
-use Rattle.rules.proofs.Choice.{if-elim, clash, number-back}
+use Rattle.rules.proofs.Choice.{if-elim, clash, number-small, number-back}
 use Rattle.rules.proofs.Incident.{prepared-sound}
 use Rattle.rules.proofs.Widths.{of-device}
 use Rattle.rules.proofs.Same.{Same, off, contents-same}
@@ -24,11 +24,15 @@ use Rattle.rules.proofs.Selections.{sights-same}
 use Rattle.rules.proofs.Spent.{Spent, spent, contents-spent, sights-spent}
 use Rattle.rules.proofs.Program.{world-taken, world-facts}
 
--- What loading takes: a lock of 0 or 1.
-lock-back : (n : ℕ) → ltb 1 n ≡ false → number (eqb n 1) ≡ n
-lock-back zero e = refl
-lock-back (suc zero) e = refl
-lock-back (suc (suc n)) e = let few = ltb-false 1 (suc (suc n)) e in absurd (omega (arith, few))
+-- What loading takes: a lock of 0, or of 1 where there is a page to lock.
+lock-back : (there : Bool) (n : ℕ) → ltb (number there) n ≡ false → number (eqb n 1) ≡ n
+lock-back there zero e = refl
+lock-back there (suc zero) e = refl
+lock-back there (suc (suc n)) e = absurd (omega (arith, ltb-false (number there) (suc (suc n)) e, number-small there))
+
+lock-there : (there : Bool) (n : ℕ) → ltb (number there) n ≡ false → eqb n 1 ≡ true → there ≡ true
+lock-there true n e f = refl
+lock-there false n e f = absurd (omega (arith, ltb-false 0 n e, eqb-true n 1 f))
 
 pub given-back : spec.GivenBack
 unfolding loadOutcome
@@ -36,26 +40,37 @@ given-back device x =
     let P : ℕ → Type 0 = λ (n : ℕ). n ≡ 0 → storedIn (if eqb n 0 then poweredWith x else preparedState) ≡ x in
     if-elim P (not (isDevice device)) (λ _ e. absurd (omega arith))
     (λ _. if-elim P (not (eqb (storable (rowOf device) (x .status)) (x .status))) (λ _ e. absurd (omega arith))
-    (λ _. if-elim P (ltb 1 (x .lock)) (λ _ e. absurd (omega arith))
-    (λ e _. ap (λ (n : ℕ). record { status = x .status; lock = n }) (lock-back (x .lock) e))))
+    (λ _. if-elim P (ltb (number (hasIdentification (rowOf device))) (x .lock)) (λ _ e. absurd (omega arith))
+    (λ e _. ap (λ (n : ℕ). record { status = x .status; lock = n }) (lock-back (hasIdentification (rowOf device)) (x .lock) e))))
 
--- A lock as a number is 0 or 1.
-lock-small : (b : Bool) → ltb 1 (number b) ≡ false
-lock-small true = refl
-lock-small false = refl
+-- A lock of a device that can be locked is taken.
+lock-taken : (there locked : Bool) → (locked ≡ true → there ≡ true) → ltb (number there) (number locked) ≡ false
+lock-taken true true f = refl
+lock-taken true false f = refl
+lock-taken false true f = clash (sym (f refl))
+lock-taken false false f = refl
 
--- What loading took is stored as the device stores it, and the state is the one after power.
-pub load-taken : (device : ℕ) (x : Stored) → loadOutcome device x .number ≡ 0 → (storable (rowOf device) (x .status) ≡ x .status) × (loadOutcome device x .state ≡ poweredWith x)
+-- What loading took can be stored: bits that the device has, a lock where there is a page to lock. And the state is the one after power.
+pub record Loadable (row : Row) (x : Stored) : Type 0 where
+  pub bits : storable row (x .status) ≡ x .status
+  pub lockable : eqb (x .lock) 1 ≡ true → hasIdentification row ≡ true
+
+pub load-taken : (device : ℕ) (x : Stored) → loadOutcome device x .number ≡ 0 → Loadable (rowOf device) x × (loadOutcome device x .state ≡ poweredWith x)
 unfolding loadOutcome
 load-taken device x =
     let own = eqb (storable (rowOf device) (x .status)) (x .status) in
-    let P : ℕ → Type 0 = λ (n : ℕ). n ≡ 0 → (storable (rowOf device) (x .status) ≡ x .status) × ((if eqb n 0 then poweredWith x else preparedState) ≡ poweredWith x) in
+    let there = hasIdentification (rowOf device) in
+    let P : ℕ → Type 0 = λ (n : ℕ). n ≡ 0 → Loadable (rowOf device) x × ((if eqb n 0 then poweredWith x else preparedState) ≡ poweredWith x) in
     if-elim P (not (isDevice device)) (λ _ e. absurd (omega arith))
     (λ _. if-elim P (not own) (λ _ e. absurd (omega arith))
-    (λ o. if-elim P (ltb 1 (x .lock)) (λ _ e. absurd (omega arith)) (λ _ _. (eqb-true (storable (rowOf device) (x .status)) (x .status) (not-false own o), refl))))
+    (λ o. if-elim P (ltb (number there) (x .lock)) (λ _ e. absurd (omega arith))
+    (λ few _. (
+      record { bits = eqb-true (storable (rowOf device) (x .status)) (x .status) (not-false own o); lockable = lock-there there (x .lock) few },
+      refl,
+    ))))
 
 -- That state is sound in any buffers whose marks are 0 and 1.
-pub loaded-sound : {row : Row} → Widths row → (x : Stored) (cells identification latch : List ℕ) → ((i : ℕ) → getD latch (row .page + i) 0 ≤ 1) → storable row (x .status) ≡ x .status
+pub loaded-sound : {row : Row} → Widths row → (x : Stored) (cells identification latch : List ℕ) → ((i : ℕ) → getD latch (row .page + i) 0 ≤ 1) → Loadable row x
     → Sound row (worldOf (poweredWith x) cells identification latch)
 unfolding prepared
 loaded-sound {row} v x cells identification latch marks own =
@@ -65,7 +80,8 @@ loaded-sound {row} v x cells identification latch marks own =
           record {
             input = p .input;
             inside = p .inside;
-            stored = own;
+            stored = own .bits;
+            page = record { lockable = own .lockable; named = λ e. clash (sym e) };
             cycle = p .cycle;
             off = p .off;
             low = λ e. clash (sym e);
@@ -152,15 +168,20 @@ module _ (device : ℕ) (w : World) (z : worldRefusal device w ≡ 0) where
   facts : (isDevice device ≡ true) × Sound (rowOf device) w × Lent (rowOf device) w
   facts = world-facts device w z
 
-  bits : storable (rowOf device) (w .state .registers .status) ≡ w .state .registers .status
-  bits = facts .1 .unsettled .stored
+  loadable : Loadable (rowOf device) (storedIn (w .state))
+  loadable =
+      let h = facts .1 .unsettled in
+      record { bits = h .stored; lockable = λ e. h .page .lockable (sym (number-back (w .state .registers .locked)) ∙ e) }
 
   reloads : loadOutcome device (storedIn (w .state)) ≡ loadedAs 0 (poweredWith (storedIn (w .state)))
   unfolding loadOutcome
-  reloads = rw (facts .0, eq-eqb (storable (rowOf device) (w .state .registers .status)) (w .state .registers .status) bits, lock-small (w .state .registers .locked))
+  reloads =
+      let r = w .state .registers in
+      let own = eq-eqb (storable (rowOf device) (r .status)) (r .status) (loadable .bits) in
+      rw (facts .0, own, lock-taken (hasIdentification (rowOf device)) (r .locked) (facts .1 .unsettled .page .lockable))
 
   powered-sound : Sound (rowOf device) (withState (poweredWith (storedIn (w .state))) w)
-  powered-sound = loaded-sound (of-device device) (storedIn (w .state)) (w .cells) (w .identification) (w .latch) (facts .1 .unsettled .marks) bits
+  powered-sound = loaded-sound (of-device device) (storedIn (w .state)) (w .cells) (w .identification) (w .latch) (facts .1 .unsettled .marks) loadable
 
   reloaded-is : spec.reloaded device w ≡ withState (poweredWith (storedIn (w .state))) w
   reloaded-is = ap (λ (o : Loaded). withState (o .state) w) reloads

@@ -1,25 +1,25 @@
 -- The theorem `preserved`: every event keeps a sound world sound, and its lists as long as they were.
 use Prim.Native.Nat.{ℕ, _+_, _*_, _≤_, _<_}
 use mathlib.Core.Path.{_≡_, refl, sym, ap, _∙_}
-use mathlib.Core.Bool.{Bool, true, false, not, _&&_}
+use mathlib.Core.Bool.{Bool, true, false, not, _&&_, _||_}
 use mathlib.Core.List.{List, [], _∷_}
 use native.Mathlib.Omega.{arith}
 use lib.ListN.{length, getD}
 use lib.Dec.{eqb, leb, lit<}
 use borrow.Author.Tests.{not-false}
 use Rattle.rules.specs.World.{Row, Kind, Event, Pins, Input, Command, State, World, number, withPins, withState}
-use Rattle.rules.specs.Device.{Widths}
+use Rattle.rules.specs.Device.{Widths, hasIdentification}
 use Rattle.rules.specs.Instruction.{facts, changes, busy}
 use Rattle.rules.specs.Receive.{risen, risenLatch}
 use Rattle.rules.specs.Send.{isSending, fallen}
 use Rattle.rules.specs.Judge.{storable, isDone, judged}
 use Rattle.rules.specs.Cycle.{waitedState, waited}
 use Rattle.rules.specs.Event.{pinsAfter, deselected, powered, decodes, react, settled, step, refusal, next, after}
-use Rattle.rules.specs.Sound.{SoundInput, SoundCycle, Unsettled, Sound, Lent, Preserved}
-use Rattle.rules.proofs.Choice.{if-elim, if-within, clash, and-right, and-rest, or-left}
+use Rattle.rules.specs.Sound.{SoundInput, SoundPage, SoundCycle, Unsettled, Sound, Lent, Preserved}
+use Rattle.rules.proofs.Choice.{if-elim, if-within, clash, and-right, and-rest, or-left, or-right, or-elim}
 use Rattle.rules.proofs.Widths.{page-below}
 use Rattle.rules.proofs.Storing.{begun-sound, written-long, left-sound}
-use Rattle.rules.proofs.Received.{input-sound, address-inside, shown-inside, command-turned, latch-long, latch-marks}
+use Rattle.rules.proofs.Received.{input-sound, address-inside, shown-inside, command-turned, command-named, latch-long, latch-marks}
 
 -- The world after an event but for the hold rule.
 abbrev pub unheld : Row → Event → World → World
@@ -38,6 +38,7 @@ settled-sound h =
             input = h .input;
             inside = h .inside;
             stored = h .stored;
+            page = h .page;
             cycle = h .cycle;
             off = λ o. let f = h .off o in record { held = rw o (f .held); bits = f .bits; bytes = f .bytes; z = f .z };
             low = h .low;
@@ -56,6 +57,7 @@ pins-sound p h low saw =
       input = h .input;
       inside = h .inside;
       stored = h .stored;
+      page = h .page;
       cycle = h .cycle;
       off = h .off;
       low = low;
@@ -77,6 +79,12 @@ module _ {row : Row} (v : Widths row) (w : World) (h : Unsettled row w) (l : Len
         input = if-elim SoundInput d (λ _. input-sound (s .input) (s .pins .d) (h .input)) (λ _. h .input);
         inside = if-elim (λ (a : ℕ). a < row .cells) (d && t) (λ _. address-inside v b s (h .inside)) (λ _. h .inside);
         stored = h .stored;
+        page =
+            record {
+              lockable = h .page .lockable;
+              named = if-elim (λ (c : Command). facts (c .instruction) .identifies ≡ true → hasIdentification row ≡ true) (d && t)
+                  (λ _. command-named row b s (h .page .named)) (λ _. h .page .named);
+            };
         cycle = h .cycle;
         off = λ o. let f = h .off o in record { held = f .held; bits = rw o (f .bits); bytes = rw o (f .bytes); z = f .z };
         low = h .low;
@@ -110,6 +118,7 @@ module _ {row : Row} (v : Widths row) (w : World) (h : Unsettled row w) (l : Len
         input = h .input;
         inside = if-elim (λ (a : ℕ). a < row .cells) (decodes s && s .pins .c && isSending row s) (λ _. shown-inside v s (h .inside)) (λ _. h .inside);
         stored = h .stored;
+        page = h .page;
         cycle = h .cycle;
         off = λ o. let f = h .off o in record { held = f .held; bits = f .bits; bytes = f .bytes; z = rw o (f .z) };
         low = h .low;
@@ -124,14 +133,15 @@ none-received last = record { few = omega arith; small = lit< tt; counted = omeg
 
 -- Any state, once it is deselected, needs only what it stores to be sound.
 pub deselected-sound : {row : Row} {w : World} (s : State) → Unsettled row w → s .place .address ≡ w .state .place .address
-    → storable row (s .registers .status) ≡ s .registers .status
+    → storable row (s .registers .status) ≡ s .registers .status → SoundPage row (s .registers .locked) (s .command .instruction)
     → SoundCycle row (s .cycle .kind) (s .cycle .next) (s .place .start) (s .place .left)
     → Unsettled row (withState (deselected s) w)
-deselected-sound {row} {w} s h same stored cycle =
+deselected-sound {row} {w} s h same stored page cycle =
     record {
       input = none-received (s .input .last);
       inside = rw same (h .inside);
       stored = stored;
+      page = page;
       cycle = cycle;
       off = λ _. record { held = refl; bits = refl; bytes = refl; z = refl };
       low = λ on. clash (sym on);
@@ -149,8 +159,8 @@ module _ {row : Row} (v : Widths row) (w : World) (h : Unsettled row w) where
       let k = facts (s .command .instruction) .starts in
       let begins = isDone row s && changes k .runs in
       if-elim (λ (x : State). Unsettled row (withState (withPins (pinsAfter (Event.Select true) (s .pins)) x) w)) (s .selection .selected && not (s .pins .s))
-      (λ _. deselected-sound {w = w} (withPins (pinsAfter (Event.Select true) (s .pins)) (judged row s)) h refl (h .stored)
-      (begun-sound v w h begins k (s .input .last) (λ e. and-right (isDone row s) (changes k .runs) e)))
+      (λ _. deselected-sound {w = w} (withPins (pinsAfter (Event.Select true) (s .pins)) (judged row s)) h refl (h .stored) (h .page)
+      (begun-sound v w h begins k (s .input .last) (λ e. and-right (isDone row s) (changes k .runs) e) refl))
       (λ e. pins-sound (pinsAfter (Event.Select true) (s .pins)) h
       (λ on. sym (not-false (s .pins .s) (and-rest (s .selection .selected) (not (s .pins .s)) e on)) ∙ h .low on)
       (h .saw))
@@ -162,6 +172,7 @@ module _ {row : Row} (v : Widths row) (w : World) (h : Unsettled row w) where
         input = none-received 0;
         inside = omega (arith, page-below v);
         stored = h .stored;
+        page = record { lockable = h .page .lockable; named = λ e. clash (sym e) };
         cycle = h .cycle;
         off = λ o. clash o;
         low = λ _. refl;
@@ -179,6 +190,7 @@ protect-sound {row} {w} h =
       input = h .input;
       inside = h .inside;
       stored = h .stored;
+      page = h .page;
       cycle = h .cycle;
       off = λ o. let f = h .off o in record { held = f .held; bits = f .bits; bytes = f .bytes; z = f .z };
       low = h .low;
@@ -200,6 +212,13 @@ module _ (row : Row) (w : World) (n : ℕ) where
         input = h .input;
         inside = h .inside;
         stored = if-elim (λ (v : ℕ). storable row v ≡ v) (ends && changes (s .cycle .kind) .status) (λ _. h .cycle .only) (λ _. h .stored);
+        page =
+            record {
+              lockable =
+                  or-elim (s .registers .locked) (ends && changes (s .cycle .kind) .lock) (h .page .lockable)
+                  (λ e. h .cycle .paged (or-right (changes (s .cycle .kind) .identification) (changes (s .cycle .kind) .lock) (and-right ends (changes (s .cycle .kind) .lock) e)));
+              named = h .page .named;
+            };
         cycle = left-sound w n ends (busy s) (s .cycle .kind) refl refl (h .cycle);
         off = h .off;
         low = h .low;
@@ -219,7 +238,7 @@ module _ (row : Row) (w : World) (n : ℕ) where
             (λ _. written-long (row .page) (row .page) (w .latch) (s .place .start) (w .cells) ∙ l .cells)
             (λ _. l .cells);
         identification =
-            if-elim (λ (m : List ℕ). length m ≡ row .page) (ends && changes (s .cycle .kind) .identification)
+            if-elim (λ (m : List ℕ). length m ≡ row .identification) (ends && changes (s .cycle .kind) .identification)
             (λ _. written-long (row .page) (row .page) (w .latch) 0 (w .identification) ∙ l .identification)
             (λ _. l .identification);
         latch = l .latch;
@@ -235,7 +254,7 @@ unheld-sound v (Event.Hold b) w h l = pins-sound (pinsAfter (Event.Hold b) (w .s
 unheld-sound v (Event.Protect true) w h l = pins-sound (pinsAfter (Event.Protect true) (w .state .pins)) h (h .low) (λ _ e. clash e)
 unheld-sound v (Event.Protect false) w h l = protect-sound h
 unheld-sound v (Event.Wait n) w h l = wait-sound _ w n h
-unheld-sound v Event.Power w h l = deselected-sound {w = w} (powered (w .state)) h refl (h .stored) (h .cycle)
+unheld-sound v Event.Power w h l = deselected-sound {w = w} (powered (w .state)) h refl (h .stored) (h .page) (h .cycle)
 
 kept-lent : {row : Row} {w : World} (s : State) → Lent row w → Lent row (withState s w)
 kept-lent s l = record { cells = l .cells; identification = l .identification; latch = l .latch }

@@ -26,26 +26,26 @@ unfolding worldRefusal lentRefusal memoryRefusal
 world-taken device w d s l =
     let row = rowOf device in
     let cells = eq-eqb (length (w .cells)) (row .cells) (l .cells) in
-    let page = eq-eqb (length (w .identification)) (row .page) (l .identification) in
+    let page = eq-eqb (length (w .identification)) (row .identification) (l .identification) in
     let latch = eq-eqb (length (w .latch)) (row .page + row .page) (l .latch) in
     rw (d, cells, page, latch, reads row w .1 s)
 
 -- Cells and an identification page that are not refused are of a device, and have its lengths.
 pub memory-facts : (device : ℕ) (cells identification : List ℕ) → memoryRefusal device cells identification ≡ 0
-    → (isDevice device ≡ true) × (length cells ≡ rowOf device .cells) × (length identification ≡ rowOf device .page)
+    → (isDevice device ≡ true) × (length cells ≡ rowOf device .cells) × (length identification ≡ rowOf device .identification)
 unfolding memoryRefusal
 memory-facts device cells identification =
     let row = rowOf device in
     let rightCells = eqb (length cells) (row .cells) in
-    let rightPage = eqb (length identification) (row .page) in
-    let P : ℕ → Type 0 = λ (n : ℕ). n ≡ 0 → (isDevice device ≡ true) × (length cells ≡ row .cells) × (length identification ≡ row .page) in
+    let rightPage = eqb (length identification) (row .identification) in
+    let P : ℕ → Type 0 = λ (n : ℕ). n ≡ 0 → (isDevice device ≡ true) × (length cells ≡ row .cells) × (length identification ≡ row .identification) in
     if-elim P (not (isDevice device)) (λ _ e. absurd (omega arith))
     (λ d. if-elim P (not rightCells) (λ _ e. absurd (omega arith))
     (λ c. if-elim P (not rightPage) (λ _ e. absurd (omega arith))
     (λ i _. (
       not-false (isDevice device) d,
       eqb-true (length cells) (row .cells) (not-false rightCells c),
-      eqb-true (length identification) (row .page) (not-false rightPage i),
+      eqb-true (length identification) (row .identification) (not-false rightPage i),
     ))))
 
 -- Buffers that are not refused have its lengths too, and a world that is not refused is sound besides.

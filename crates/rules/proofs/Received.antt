@@ -8,17 +8,17 @@ use native.Mathlib.Numerals.{add-one}
 use native.Mathlib.Omega.{arith}
 use lib.ListN.{length, getD, length-append, length-take, length-replicate, length-set}
 use lib.Dec.{eqb, lit<}
-use borrow.Author.Tests.{eqb-false}
+use borrow.Author.Tests.{eqb-false, not-false}
 use Rattle.rules.specs.World.{Source, Row, Instruction, Input, State, World, if_then_else_, bit, number}
 use Rattle.rules.specs.declared.Instruction.the-variants.{Wren, Wrdi, Rdsr, Wrsr, Read, Write, Rdid, Rdls, Wrid, Lid, Unknown}
-use Rattle.rules.specs.Device.{Widths, single}
-use Rattle.rules.specs.Instruction.{facts, decode, busy, latches, turnedAway, commandBytes, longer, lockBit}
+use Rattle.rules.specs.Device.{Widths, hasIdentification, hasA8}
+use Rattle.rules.specs.Instruction.{facts, named, decode, busy, latches, turnedAway, commandBytes, longer, lockBit}
 use Rattle.rules.specs.Receive.{isCode, isAddress, isLast, isLatched, commandAfter, addressAfter, cleared, marked, latchAfter, inputAfter}
 use Rattle.rules.specs.Send.{going, sourceOf, shownAddress}
-use Rattle.rules.specs.Sound.{SoundInput}
-use Rattle.rules.proofs.Choice.{if-elim, clash, and-both, number-small}
+use Rattle.rules.specs.Sound.{ofPage, SoundInput}
+use Rattle.rules.proofs.Choice.{if-elim, clash, and-both, and-rest, number-small}
 use Rattle.rules.proofs.Latch.{cleared-mark, mark-read}
-use Rattle.rules.proofs.Widths.{page-positive, page-below, longer-inside, rolled-inside}
+use Rattle.rules.proofs.Widths.{page-positive, page-below, identification-short, longer-inside, rolled-inside}
 
 -- One bit more.
 pub whole-sound : (v : ℕ) (i : Input) → SoundInput (record { bits = 0; value = 0; bytes = min (i .bytes + 1) 6; last = v })
@@ -43,7 +43,7 @@ module _ {row : Row} (v : Widths row) where
   address-inside b s h =
       let P : ℕ → Type 0 = λ (a : ℕ). a < row .cells in
       let i = decode row b in
-      if-elim P (isCode s) (λ _. omega (arith, number-small (single row && facts i .addressed && not (facts i .paged) && bit b 3), page-below v, page-positive v))
+      if-elim P (isCode s) (λ _. omega (arith, number-small (hasA8 row && facts i .addressed && not (facts i .paged) && bit b 3), page-below v, page-positive v))
       (λ _. if-elim P (isLast row s) (λ _. omega (arith, mod-lt (longer row (s .place .address) b) {m = row .page} (page-positive v), page-below v))
       (λ _. if-elim P (isAddress row s) (λ _. longer-inside v (s .place .address) b)
       (λ _. if-elim P (isLatched row s) (λ _. rolled-inside v (s .place .address) h) (λ _. h))))
@@ -52,7 +52,7 @@ module _ {row : Row} (v : Widths row) where
   onward-inside Source.Silent a h = h
   onward-inside Source.Status a h = h
   onward-inside Source.Cells a h = mod-lt (a + 1) (omega (arith, page-below v))
-  onward-inside Source.Identification a h = omega (arith, page-below v)
+  onward-inside Source.Identification a h = omega (arith, page-below v, identification-short v)
   onward-inside Source.Lock a h = h
 
   pub shown-inside : (s : State) → s .place .address < row .cells → shownAddress row s < row .cells
@@ -60,6 +60,14 @@ module _ {row : Row} (v : Widths row) where
   shown-inside s h =
       if-elim (λ (a : ℕ). a < row .cells) (eqb (s .input .bits) 0 && not (eqb (s .input .bytes) (commandBytes row (s .command .instruction))))
       (λ _. onward-inside (sourceOf s) (s .place .address) h) (λ _. h)
+
+-- What is decoded is of the identification page only where there is one.
+decoded-named : (row : Row) (c : ℕ) → facts (decode row c) .identifies ≡ true → hasIdentification row ≡ true
+unfolding decode
+decoded-named row c =
+    let of = facts (named row c) .identifies in
+    if-elim (λ (i : Instruction). facts i .identifies ≡ true → hasIdentification row ≡ true) (of && not (hasIdentification row)) (λ _ e. clash (sym e))
+    (λ there e. not-false (hasIdentification row) (and-rest of (not (hasIdentification row)) there e))
 
 -- The command: what a cycle turns away stays turned away.
 -- What the lock bit makes of an instruction is taken in a cycle exactly if that is, and uses the latch only if that does; what uses the latch is not taken in a cycle.
@@ -75,6 +83,20 @@ lock-form Rdls = (refl, λ e. e, λ _. refl)
 lock-form Wrid = (refl, λ _. refl, λ _. refl)
 lock-form Lid = (refl, λ e. e, λ _. refl)
 lock-form Unknown = (refl, λ e. e, λ _. refl)
+
+-- That form is of the identification page exactly if the instruction is, and so is what starts a cycle of it.
+pub page-form : (i : Instruction) → (facts (facts i .lock) .identifies ≡ facts i .identifies) × (ofPage (facts i .starts) ≡ true → facts i .identifies ≡ true)
+page-form Wren = (refl, λ e. e)
+page-form Wrdi = (refl, λ e. e)
+page-form Rdsr = (refl, λ e. e)
+page-form Wrsr = (refl, λ e. e)
+page-form Read = (refl, λ e. e)
+page-form Write = (refl, λ e. e)
+page-form Rdid = (refl, λ _. refl)
+page-form Rdls = (refl, λ _. refl)
+page-form Wrid = (refl, λ _. refl)
+page-form Lid = (refl, λ _. refl)
+page-form Unknown = (refl, λ e. e)
 
 pub command-turned : (row : Row) (b : ℕ) (s : State)
     → ((s .input .bytes ≡ 0 → ⊥) → facts (s .command .instruction) .taken ≡ false → s .command .away ≡ true)
@@ -92,6 +114,14 @@ command-turned row b s h run = go (isCode s) refl
     go true e f = and-both (busy s) (not (facts (decode row b) .taken)) run (ap not f)
     go false e f = if-elim (λ (j : Instruction). facts j .taken ≡ false → s .command .away ≡ true) lock
         (λ _ g. h (eqb-false (s .input .bytes) 0 e) (sym (lock-form i .0) ∙ g)) (λ _ g. h (eqb-false (s .input .bytes) 0 e) g) f
+
+-- What is received is of the identification page only where there is one.
+pub command-named : (row : Row) (b : ℕ) (s : State) → (facts (s .command .instruction) .identifies ≡ true → hasIdentification row ≡ true)
+    → facts (commandAfter row b s .instruction) .identifies ≡ true → hasIdentification row ≡ true
+command-named row b s h =
+    let P : Instruction → Type 0 = λ (i : Instruction). facts i .identifies ≡ true → hasIdentification row ≡ true in
+    if-elim P (isCode s) (λ _. decoded-named row b)
+    (λ _. if-elim P (isLast row s && lockBit row (longer row (s .place .address) b)) (λ _ e. h (sym (page-form (s .command .instruction) .0) ∙ e)) (λ _. h))
 
 -- The latch: its marks stay 0 or 1, and its length stays.
 module _ (row : Row) (l : List ℕ) where

@@ -1,4 +1,5 @@
--- The theorems `demand-3-devices`, `demand-3-run` and `incident-run`: demand 3 for every device number, and for the runs of recorded events.
+-- The theorems `demand-3-devices`, `demand-3-seven`, `demand-3-run` and `incident-run`: demand 3 for every device number, and for the runs of
+-- recorded events.
 use Prim.Native.Nat.{ℕ, suc, _+_, _≤_}
 use mathlib.Core.Path.{_≡_, refl, sym, ap, _∙_, subst₂}
 use mathlib.Core.Bool.{true, false, _&&_}
@@ -6,14 +7,15 @@ use mathlib.Core.List.{List, [], _∷_, _++_, map}
 use native.Mathlib.Omega.{arith}
 use lib.ListN.{drop, length, length-append}
 use lib.Seq.{drop-drop}
-use lib.Dec.{eqb}
+use lib.Dec.{eqb, leb}
+use borrow.Author.Tests.{le-leb}
 use Rattle.rules.specs.World.{Row, Event, World}
-use Rattle.rules.specs.Device.{m95128, rowOf, prepared}
+use Rattle.rules.specs.Device.{m95128d, rowOf, prepared}
 use Rattle.rules.specs.Event.{refusal, next, after}
 use Rattle.rules.specs.Trace.{progressOf, run}
 use Rattle.rules.specs.Call.{worldRefusal, runOutcome}
 use Rattle.rules.specs.Selections.{Visible, visible, sights, Inside, Cut, heard, heardLeft, happened, remaining}
-use Rattle.rules.specs.Recorded.{Demand3Devices, recorded, fits, runnable, outside, outsideLeft, seen, Alike, Demand3Run, IncidentRun}
+use Rattle.rules.specs.Recorded.{Demand3Devices, Demand3Seven, recorded, fits, runnable, outside, outsideLeft, seen, Alike, Demand3Run, IncidentRun}
 use Rattle.rules.proofs.Choice.{and-both}
 use Rattle.rules.proofs.Encoded.{byteOf, first-taken, rest-runs, run-recorded}
 use Rattle.rules.proofs.Incident.{prepared-sound, prepared-lent, incident}
@@ -22,6 +24,12 @@ use Rattle.rules.proofs.Program.{world-taken, world-facts}
 use Rattle.rules.proofs.Preserved.{after-sound}
 use Rattle.rules.proofs.Selections.{demand-3}
 use Rattle.rules.proofs.Widths.{of-device}
+
+pub demand-3-seven : Demand3Seven
+demand-3-seven device low high = (
+  and-both (leb 1 device) (leb device 7) (le-leb 1 device low) (le-leb device 7 high),
+  λ w sound lent es ks c. demand-3 (rowOf device) (of-device device) w sound lent es ks c,
+)
 
 pub demand-3-devices : Demand3Devices
 demand-3-devices device w g es ks c = let k = world-facts device w g in demand-3 (rowOf device) (of-device device) w (k .1) (k .2) es ks c
@@ -136,6 +144,6 @@ demand-3-run device w g es ks c r answers limit room long =
 
 pub incident-run : IncidentRun incident
 incident-run answers limit room long =
-    let w = prepared m95128 in
+    let w = prepared m95128d in
     let v = of-device 2 in
     demand-3-run 2 w (world-taken 2 w refl (prepared-sound v) (prepared-lent v)) happened remaining incident refl answers limit room long

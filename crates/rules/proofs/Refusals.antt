@@ -8,9 +8,9 @@ prepare-taken : spec.Gives spec.prepare-taken
 unfolding calls
 prepare-taken = refl
 
-prepare-device-five : spec.Gives spec.prepare-device-five
+prepare-device-eight : spec.Gives spec.prepare-device-eight
 unfolding calls
-prepare-device-five = refl
+prepare-device-eight = refl
 
 prepare-device-zero : spec.Gives spec.prepare-device-zero
 unfolding calls
@@ -27,6 +27,22 @@ prepare-identification = refl
 prepare-latch : spec.Gives spec.prepare-latch
 unfolding calls
 prepare-latch = refl
+
+prepare-the-m95010 : spec.Gives spec.prepare-the-m95010
+unfolding calls
+prepare-the-m95010 = refl
+
+prepare-the-m95020 : spec.Gives spec.prepare-the-m95020
+unfolding calls
+prepare-the-m95020 = refl
+
+prepare-the-m95128 : spec.Gives spec.prepare-the-m95128
+unfolding calls
+prepare-the-m95128 = refl
+
+prepare-a-page-where-there-is-none : spec.Gives spec.prepare-a-page-where-there-is-none
+unfolding calls
+prepare-a-page-where-there-is-none = refl
 
 load-all-bits : spec.Gives spec.load-all-bits
 unfolding calls
@@ -55,6 +71,14 @@ load-above-a-byte = refl
 load-lock : spec.Gives spec.load-lock
 unfolding calls
 load-lock = refl
+
+load-without-a-page : spec.Gives spec.load-without-a-page
+unfolding calls
+load-without-a-page = refl
+
+load-lock-without-a-page : spec.Gives spec.load-lock-without-a-page
+unfolding calls
+load-lock-without-a-page = refl
 
 stored-in-a-status-cycle : spec.Gives spec.stored-in-a-status-cycle
 unfolding calls
@@ -95,6 +119,22 @@ event-mark = refl
 event-power-in-a-cycle : spec.Gives spec.event-power-in-a-cycle
 unfolding calls
 event-power-in-a-cycle = refl
+
+event-a-page-where-there-is-none : spec.Gives spec.event-a-page-where-there-is-none
+unfolding calls
+event-a-page-where-there-is-none = refl
+
+event-a8 : spec.Gives spec.event-a8
+unfolding calls
+event-a8 = refl
+
+event-no-a8 : spec.Gives spec.event-no-a8
+unfolding calls
+event-no-a8 = refl
+
+event-83h-in-a-cycle : spec.Gives spec.event-83h-in-a-cycle
+unfolding calls
+event-83h-in-a-cycle = refl
 
 run-to-its-end : spec.Gives spec.run-to-its-end
 unfolding calls
@@ -143,6 +183,10 @@ run-cells = refl
 run-identification : spec.Gives spec.run-identification
 unfolding calls
 run-identification = refl
+
+run-a-page-where-there-is-none : spec.Gives spec.run-a-page-where-there-is-none
+unfolding calls
+run-a-page-where-there-is-none = refl
 
 run-latch : spec.Gives spec.run-latch
 unfolding calls
@@ -244,6 +288,18 @@ view-identification-other-alone : spec.Gives spec.view-identification-other-alon
 unfolding calls
 view-identification-other-alone = refl
 
+view-no-page : spec.Gives spec.view-no-page
+unfolding calls
+view-no-page = refl
+
+view-cells-without-a-page : spec.Gives spec.view-cells-without-a-page
+unfolding calls
+view-cells-without-a-page = refl
+
+view-a-page-where-there-is-none : spec.Gives spec.view-a-page-where-there-is-none
+unfolding calls
+view-a-page-where-there-is-none = refl
+
 first-taken : spec.Gives spec.first-taken
 unfolding calls
 first-taken = refl
@@ -276,22 +332,27 @@ first-device-three : spec.Gives spec.first-device-three
 unfolding calls
 first-device-three = refl
 
+first-device-seven : spec.Gives spec.first-device-seven
+unfolding calls
+first-device-seven = refl
+
 first-device-zero : spec.Gives spec.first-device-zero
 unfolding calls
 first-device-zero = refl
 
 pub refusals : spec.Given spec.refusals
 refusals =
-    prepare-taken and prepare-device-five and prepare-device-zero and prepare-cells and prepare-identification and prepare-latch and load-all-bits
-    and load-nothing and load-no-device and load-no-srwd and load-wel and load-above-a-byte and load-lock and stored-in-a-status-cycle
-    and stored-in-a-lock-cycle and stored-lock and event-taken
-    and event-device and event-cells and event-identification and event-latch and event-mark and event-power-in-a-cycle and run-to-its-end
-    and run-to-its-limit and run-data-select-protect and run-clock-hold and run-wait and run-wait-third-byte and run-wait-fourth-byte
-    and run-answers-low and run-answers-high and run-device and run-cells and run-identification and run-latch and run-mark
+    prepare-taken and prepare-device-eight and prepare-device-zero and prepare-cells and prepare-identification and prepare-latch
+    and prepare-the-m95010 and prepare-the-m95020 and prepare-the-m95128 and prepare-a-page-where-there-is-none and load-all-bits and load-nothing
+    and load-no-device and load-no-srwd and load-wel and load-above-a-byte and load-lock and load-without-a-page
+    and load-lock-without-a-page and stored-in-a-status-cycle and stored-in-a-lock-cycle and stored-lock and event-taken and event-device
+    and event-cells and event-identification and event-latch and event-mark and event-power-in-a-cycle and event-a-page-where-there-is-none
+    and event-a8 and event-no-a8 and event-83h-in-a-cycle and run-to-its-end and run-to-its-limit and run-data-select-protect
+    and run-clock-hold and run-wait and run-wait-third-byte and run-wait-fourth-byte and run-answers-low and run-answers-high
+    and run-device and run-cells and run-identification and run-a-page-where-there-is-none and run-latch and run-mark
     and run-no-four-bytes and run-unknown-kind and run-kind-of-two-bytes and run-wrong-length and run-length-of-two-bytes and run-no-body
-    and run-no-pin and run-no-answer-left and run-power-in-a-cycle
-    and view-cells-first-address and view-cells-last-address and view-cells-last-cell and view-cells-past-the-cells and view-identification-shown
-    and view-identification-past-the-cells and view-cells-device and view-cells-length and view-cells-other-length and view-identification-device
-    and view-identification-other-length and view-identification-length and view-cells-other-alone and view-identification-other-alone
-    and first-taken and first-too-long and first-of-32768-bytes and first-no-four-bytes and first-other-kind and first-other-length
-    and first-no-body and first-device-three and first-device-zero and none
+    and run-no-pin and run-no-answer-left and run-power-in-a-cycle and view-cells-first-address and view-cells-last-address and view-cells-last-cell
+    and view-cells-past-the-cells and view-identification-shown and view-identification-past-the-cells and view-cells-device and view-cells-length and view-cells-other-length
+    and view-identification-device and view-identification-other-length and view-identification-length and view-cells-other-alone and view-identification-other-alone and view-no-page
+    and view-cells-without-a-page and view-a-page-where-there-is-none and first-taken and first-too-long and first-of-32768-bytes and first-no-four-bytes
+    and first-other-kind and first-other-length and first-no-body and first-device-three and first-device-seven and first-device-zero and none

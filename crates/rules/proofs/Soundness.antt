@@ -9,16 +9,13 @@ use lib.Seq.{getD-drop}
 use lib.Dec.{eqb, leb}
 use borrow.Author.Tests.{eqb-true, eqb-false, leb-true, ltb-true, eq-eqb, ne-eqb, le-leb, lt-ltb, not-true}
 use Rattle.rules.specs.World.{Row, Level, World, if_then_else_}
+use Rattle.rules.specs.Device.{hasIdentification}
 use Rattle.rules.specs.Instruction.{facts, changes, busy}
 use Rattle.rules.specs.Judge.{storable}
-use Rattle.rules.specs.Sound.{_implies_, isZ, areMarks, clauses, isSound, Sound, Reads}
-use Rattle.rules.proofs.Choice.{clash, and-left, and-right, and-both, or-rest, each, all-of}
+use Rattle.rules.specs.Sound.{_implies_, isZ, areMarks, ofPage, clauses, isSound, Sound, Reads}
+use Rattle.rules.proofs.Choice.{clash, and-left, and-right, and-both, or-rest, implied, each, all-of}
 
 -- Tests that are no numbers'.
-implied : (a b : Bool) → (a implies b) ≡ true → a ≡ true → b ≡ true
-implied true b e f = e
-implied false b e f = clash (sym f)
-
 implying : (a b : Bool) → (a ≡ true → b ≡ true) → (a implies b) ≡ true
 implying true b f = f refl
 implying false b f = refl
@@ -83,6 +80,7 @@ module _ (row : Row) (w : World) where
       let h₅ = h .1 .1 .1 .1 .1 in
       let h₁₀ = h₅ .1 .1 .1 .1 .1 in
       let h₁₅ = h₁₀ .1 .1 .1 .1 .1 in
+      let of-page = h₁₅ .1 .1 .1 in
       record {
         unsettled =
             record {
@@ -94,6 +92,11 @@ module _ (row : Row) (w : World) where
                   };
               inside = ltb-true (s .place .address) (row .cells) (h .1 .1 .1 .0);
               stored = eqb-true (storable row (s .registers .status)) (s .registers .status) (h .1 .1 .1 .1 .0);
+              page =
+                  record {
+                    lockable = implied (s .registers .locked) (hasIdentification row) (of-page .0);
+                    named = implied (facts (s .command .instruction) .identifies) (hasIdentification row) (of-page .1 .1 .0);
+                  };
               cycle =
                   record {
                     only = eqb-true (storable row (s .cycle .next)) (s .cycle .next) (h₅ .0);
@@ -102,6 +105,7 @@ module _ (row : Row) (w : World) where
                     aligned = eqb-true (s .place .start % row .page) 0 (h₅ .1 .1 .0);
                     inside = ltb-true (s .place .start) (row .cells) (h₅ .1 .1 .1 .0);
                     first = λ k. eqb-true (s .place .start) 0 (implied (changes (s .cycle .kind) .identification) (eqb (s .place .start) 0) (h₅ .1 .1 .1 .1 .0) k);
+                    paged = implied (ofPage (s .cycle .kind)) (hasIdentification row) (of-page .1 .0);
                   };
               off = λ o.
                   record {
@@ -116,7 +120,7 @@ module _ (row : Row) (w : World) where
                   or-rest (eqb (s .input .bytes) 0 || facts (s .command .instruction) .taken) (s .command .away)
                   (implied (busy s) (eqb (s .input .bytes) 0 || facts (s .command .instruction) .taken || s .command .away) (h₁₅ .1 .0) b)
                   (rw (ne-eqb (s .input .bytes) 0 none, t));
-              marks = λ i. rw (getD-drop (row .page) (w .latch) i 0) at (marks-true (drop (row .page) (w .latch)) (h₁₅ .1 .1 .1 .0) i);
+              marks = λ i. rw (getD-drop (row .page) (w .latch) i 0) at (marks-true (drop (row .page) (w .latch)) (of-page .1 .1 .1 .0) i);
             };
         holds = λ o e.
             beq-true (s .selection .held) (not (s .pins .hold))
@@ -170,8 +174,17 @@ module _ (row : Row) (w : World) where
                                         (
                                           implying on (s .pins .c || settled) (λ e. or-of (s .pins .c) settled (λ c. rw (k .holds e c) (beq-same (not (s .pins .hold))))),
                                           (
-                                            marks-of (drop (row .page) (w .latch)) (λ i. rw (getD-drop (row .page) (w .latch) i 0) (h .marks i)),
-                                            tt,
+                                            implying (s .registers .locked) (hasIdentification row) (h .page .lockable),
+                                            (
+                                              implying (ofPage (s .cycle .kind)) (hasIdentification row) (h .cycle .paged),
+                                              (
+                                                implying (facts (s .command .instruction) .identifies) (hasIdentification row) (h .page .named),
+                                                (
+                                                  marks-of (drop (row .page) (w .latch)) (λ i. rw (getD-drop (row .page) (w .latch) i 0) (h .marks i)),
+                                                  tt,
+                                                ),
+                                              ),
+                                            ),
                                           ),
                                         ),
                                       ),

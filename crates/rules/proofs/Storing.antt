@@ -1,6 +1,6 @@
 -- What is stored, and a cycle, stay sound: at S's rise, which can start one, and as time passes.
 use Prim.Native.Nat.{ℕ, zero, suc, _+_, _-_, _*_, _/_, _%_, _<_}
-use mathlib.Core.Path.{_≡_, refl, sym, _∙_}
+use mathlib.Core.Path.{_≡_, refl, sym, ap, _∙_}
 use mathlib.Core.Bool.{Bool, true, false, _&&_}
 use mathlib.Core.List.{List}
 use native.Mathlib.Nat.{zero-mod, mod-lt}
@@ -10,11 +10,12 @@ use lib.Dec.{eqb, leb, lit<}
 use borrow.Author.Tests.{leb-true, leb-false}
 use Rattle.rules.specs.World.{Row, Kind, World, if_then_else_, bit, number}
 use Rattle.rules.specs.Device.{Widths}
-use Rattle.rules.specs.Instruction.{changes}
+use Rattle.rules.specs.Instruction.{facts, changes}
 use Rattle.rules.specs.Judge.{storable, startOf}
 use Rattle.rules.specs.Cycle.{written}
-use Rattle.rules.specs.Sound.{SoundCycle, Unsettled}
+use Rattle.rules.specs.Sound.{ofPage, SoundCycle, Unsettled}
 use Rattle.rules.proofs.Choice.{if-elim, clash, and-right, and-rest}
+use Rattle.rules.proofs.Received.{page-form}
 use Rattle.rules.proofs.Widths.{page-below, start-aligned}
 
 -- The stored bits of a byte are bits that the device has.
@@ -37,11 +38,11 @@ module _ {row : Row} (v : Widths row) (w : World) (h : Unsettled row w) where
   start-sound Kind.Status = (h .cycle .aligned, h .cycle .inside, λ e. clash (sym e))
   start-sound Kind.Lock = (h .cycle .aligned, h .cycle .inside, λ e. clash (sym e))
 
-  pub begun-sound : (begins : Bool) (k : Kind) (b : ℕ) → (begins ≡ true → changes k .runs ≡ true)
+  pub begun-sound : (begins : Bool) (k : Kind) (b : ℕ) → (begins ≡ true → changes k .runs ≡ true) → k ≡ facts (w .state .command .instruction) .starts
       → SoundCycle row (if begins then k else w .state .cycle .kind) (if begins && changes k .status then storable row b else w .state .cycle .next)
       (if begins then startOf row (w .state) k else w .state .place .start) (if begins then row .time else w .state .place .left)
-  begun-sound false k b f = h .cycle
-  begun-sound true k b f =
+  begun-sound false k b f g = h .cycle
+  begun-sound true k b f g =
       let t = start-sound k in
       record {
         only = if-elim (λ (n : ℕ). storable row n ≡ n) (changes k .status) (λ _. storable-only row b) (λ _. h .cycle .only);
@@ -50,6 +51,7 @@ module _ {row : Row} (v : Widths row) (w : World) (h : Unsettled row w) where
         aligned = t .0;
         inside = t .1;
         first = t .2;
+        paged = λ e. h .page .named (page-form (w .state .command .instruction) .1 (ap ofPage (sym g) ∙ e));
       }
 
 -- Written bytes are as many as before.
@@ -75,6 +77,7 @@ module _ {row : Row} (w : World) (n : ℕ) where
         aligned = h .aligned;
         inside = h .inside;
         first = λ r. clash (sym r);
+        paged = λ r. clash (sym r);
       }
   left-sound false b k e f h =
       let long : b ≡ true → n < w .state .place .left = λ r. leb-false (w .state .place .left) n (and-rest b (leb (w .state .place .left) n) e r) in
@@ -85,4 +88,5 @@ module _ {row : Row} (w : World) (n : ℕ) where
         aligned = h .aligned;
         inside = h .inside;
         first = h .first;
+        paged = h .paged;
       }

@@ -97,10 +97,44 @@ sound-at-its-edges : Gives spec.sound-at-its-edges
 unfolding calls
 sound-at-its-edges = refl
 
+locked-without-a-page : Gives spec.locked-without-a-page
+unfolding calls
+locked-without-a-page = refl
+
+identification-cycle-without-a-page : Gives spec.identification-cycle-without-a-page
+unfolding calls
+identification-cycle-without-a-page = refl
+
+lock-cycle-without-a-page : Gives spec.lock-cycle-without-a-page
+unfolding calls
+lock-cycle-without-a-page = refl
+
+rdid-left-without-a-page : Gives spec.rdid-left-without-a-page
+unfolding calls
+rdid-left-without-a-page = refl
+
+rdls-left-without-a-page : Gives spec.rdls-left-without-a-page
+unfolding calls
+rdls-left-without-a-page = refl
+
+wrid-left-without-a-page : Gives spec.wrid-left-without-a-page
+unfolding calls
+wrid-left-without-a-page = refl
+
+lid-left-without-a-page : Gives spec.lid-left-without-a-page
+unfolding calls
+lid-left-without-a-page = refl
+
+write-left-without-a-page : Gives spec.write-left-without-a-page
+unfolding calls
+write-left-without-a-page = refl
+
 pub unsound : Given spec.unsound
 unsound =
     eight-bits and value-of-too-many-bits and seven-bytes and address-past-the-cells and status-bit-of-no-device and srwd-on-the-m95040
     and new-status-bit-of-no-device and cycle-with-no-time and cycle-with-too-much-time and time-with-no-cycle and start-inside-a-page
     and start-past-the-cells and identification-cycle-elsewhere and held-and-not-selected and bit-and-not-selected and byte-and-not-selected
     and level-and-not-selected and selected-with-s-high and w-low-and-not-seen and held-with-hold-high and not-held-with-hold-low
-    and read-taken-in-a-cycle and sound-at-its-edges and none
+    and read-taken-in-a-cycle and sound-at-its-edges
+    and locked-without-a-page and identification-cycle-without-a-page and lock-cycle-without-a-page and rdid-left-without-a-page
+    and rdls-left-without-a-page and wrid-left-without-a-page and lid-left-without-a-page and write-left-without-a-page and none

@@ -1,20 +1,20 @@
 -- Facts on address width and page size, over the width; and that every row of the device table has the widths that they ask for.
 use Prim.Native.Nat.{ℕ, zero, suc, _+_, _-_, _*_, _/_, _%_, _^_, _≤_, _<_}
-use mathlib.Core.Path.{_≡_, refl, sym, subst}
-use mathlib.Core.Bool.{Bool, true}
+use mathlib.Core.Path.{_≡_, refl, sym, ap, subst}
+use mathlib.Core.Bool.{Bool, true, false, not}
 use mathlib.Core.List.{List, [], _∷_, map}
 use native.Mathlib.Nat.{mod-lt, mul-mod-left, div-add-mod', div-lt-iff-lt-mul, mul-le-mul-right}
 use native.Mathlib.Omega.{arith}
 use lib.Pow.{pow-lt, pow-add}
 use lib.Dec.{eqb, leb, ltb}
-use lib.ListN.{getD}
+use lib.ListN.{length, getD}
 use borrow.Author.Tests.{eqb-true, leb-true, ltb-true}
 use Rattle.rules.specs.World.{if_then_else_, Row}
-use Rattle.rules.specs.Device.{Widths, single, table, m95040, rowOf}
+use Rattle.rules.specs.Device.{Widths, hasIdentification, hasA8, code, table, m95040, rowOf}
 use Rattle.rules.specs.Instruction.{longer}
 use Rattle.rules.specs.Receive.{rolled}
-use Rattle.rules.specs.Sound.{all}
-use Rattle.rules.proofs.Choice.{and-left, and-right, each}
+use Rattle.rules.specs.Sound.{_implies_, all}
+use Rattle.rules.proofs.Choice.{and-left, and-right, implied, each}
 
 -- How often a number can be halved: the exponent of a power of two, here at most 24.
 abbrev halvings : ℕ → ℕ → ℕ
@@ -33,9 +33,11 @@ tests row =
     ∷ leb (row .cells) 16_777_216
     ∷ leb 4 (row .page)
     ∷ leb (row .page) 256
+    ∷ (hasIdentification row implies eqb (row .identification) (row .page))
+    ∷ leb (length (code row)) (row .identification)
     ∷ leb 1 (row .width)
     ∷ leb (row .width) 3
-    ∷ leb (row .cells) (256 ^ row .width * (if single row then 2 else 1))
+    ∷ leb (row .cells) (256 ^ row .width * (if hasA8 row then 2 else 1))
     ∷ leb 1 (row .time)
     ∷ ltb (row .time) (2 ^ 32)
     ∷ []
@@ -49,7 +51,8 @@ unfolding isWide
 widths row e =
     let h = each (tests row) e in
     let bounds = h .1 .1 .1 .1 in
-    let address = bounds .1 .1 .1 in
+    let page = bounds .1 .1 .1 in
+    let address = page .1 .1 in
     record {
       cellBits = halvings 24 (row .cells);
       pageBits = halvings 24 (row .page);
@@ -60,6 +63,8 @@ widths row e =
       cellsMost = leb-true _ _ (bounds .0);
       pageLeast = leb-true _ _ (bounds .1 .0);
       pageMost = leb-true _ _ (bounds .1 .1 .0);
+      whole = λ has. eqb-true _ _ (implied (hasIdentification row) (eqb (row .identification) (row .page)) (page .0) has);
+      codeFits = leb-true _ _ (page .1 .0);
       oneByte = leb-true _ _ (address .0);
       threeBytes = leb-true _ _ (address .1 .0);
       reach = leb-true _ _ (address .1 .1 .0);
@@ -81,20 +86,20 @@ of-device n = widths (rowOf n) (read-row isWide table refl (n - 1) m95040 refl)
 pub row-widths : (device : ℕ) (row : Row) → row ≡ rowOf device → Widths row
 row-widths device row e = subst Widths (sym e) (of-device device)
 
--- No device has more cells than this, and programs lend so many.
-hasRoom : Row → Bool
-hasRoom row = leb (row .cells) 262_144
-
-pub room : (device : ℕ) {row : Row} → row ≡ rowOf device → (row .cells ≤ 262_144) × (row .page ≤ 256)
-unfolding hasRoom
-room device e = rw e (leb-true (rowOf device .cells) 262_144 (read-row hasRoom table refl (device - 1) m95040 refl), of-device device .pageMost)
-
 module _ {row : Row} (v : Widths row) where
   pub page-positive : 0 < row .page
   page-positive = omega (arith, v .pageLeast)
 
   pub page-below : row .page < row .cells
   page-below = rw (v .page, v .cells) (pow-lt (omega (arith, v .quarters)))
+
+  -- The identification page is a page, or none.
+  pub identification-short : row .identification ≤ row .page
+  identification-short = go (eqb (row .identification) 0) refl
+    where
+      go : (none : Bool) → eqb (row .identification) 0 ≡ none → row .identification ≤ row .page
+      go true e = omega (arith, eqb-true (row .identification) 0 e)
+      go false e = omega (arith, v .whole (ap not e))
 
   -- The cells are whole pages.
   pages : row .cells ≡ 2 ^ (v .cellBits - v .pageBits) * row .page
@@ -125,3 +130,13 @@ page-room {row} v a e h =
     let whole : a / p * p ≡ a = omega (arith, div-add-mod' a p) in
     let less : a / p < 2 ^ (v .cellBits - v .pageBits) = div-lt-iff-lt-mul (page-positive v) .1 (subst (λ (n : ℕ). a < n) (pages v) h) in
     omega (arith, mul-le-mul-right p less, pages v)
+
+-- No device has more cells than this, and programs lend so many.
+hasRoom : Row → Bool
+hasRoom row = leb (row .cells) 262_144
+
+pub room : (device : ℕ) {row : Row} → row ≡ rowOf device → (row .cells ≤ 262_144) × (row .page ≤ 256) × (row .identification ≤ 256)
+unfolding hasRoom
+room device e =
+    let v = of-device device in
+    rw e (leb-true (rowOf device .cells) 262_144 (read-row hasRoom table refl (device - 1) m95040 refl), v .pageMost, omega (arith, v .pageMost, identification-short v))

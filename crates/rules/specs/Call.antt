@@ -1,7 +1,7 @@
 -- 01, "Numbers given back": the whole outcome of each public call, for every input. Refusals are read from top to bottom.
 use Rattle.rules.specs.World.{ℕ, _+_, Bool, false, _&&_, ltb, getD, _-_, _%_, not, List, [], take, drop, length, eqb, leb, if_then_else_, number}
 use Rattle.rules.specs.World.{Row, Region, Event, Stored, State, World, withStored}
-use Rattle.rules.specs.Device.{isDevice, rowOf, preparedState, prepared}
+use Rattle.rules.specs.Device.{isDevice, rowOf, hasIdentification, preparedState, prepared}
 use Rattle.rules.specs.Judge.{storable}
 use Rattle.rules.specs.Sound.{isSound}
 use Rattle.rules.specs.Event.{powered, step, answer, refusal}
@@ -12,7 +12,7 @@ unfoldable pub memoryRefusal : ℕ → List ℕ → List ℕ → ℕ
 memoryRefusal device cells identification =
     if not (isDevice device) then 1
     else if not (eqb (length cells) (rowOf device .cells)) then 2
-    else if not (eqb (length identification) (rowOf device .page)) then 3
+    else if not (eqb (length identification) (rowOf device .identification)) then 3
     else 0
 
 -- 4 then: a latch of a wrong length.
@@ -55,7 +55,8 @@ storedIn s = storedAs (s .registers .status) (number (s .registers .locked))
 abbrev pub poweredWith : Stored → State
 poweredWith x = powered (withStored (record { status = x .status; wel = false; locked = eqb (x .lock) 1 }) (preparedState .cycle) 0 0 preparedState)
 
--- Loading: 1, then 5 for bits that the device has not and for a lock that is neither 0 nor 1. Refused, it gives the prepared state.
+-- Loading: 1, then 5 for bits that the device has not and for a lock that is neither 0 nor, where there is an identification page, 1.
+-- Refused, it gives the prepared state.
 pub record Loaded : Type 0 where
   pub number : ℕ
   pub state : State
@@ -68,7 +69,7 @@ loadOutcome device x =
     let n : ℕ =
     if not (isDevice device) then 1
     else if not (eqb (storable (rowOf device) (x .status)) (x .status)) then 5
-    else if ltb 1 (x .lock) then 5
+    else if ltb (number (hasIdentification (rowOf device))) (x .lock) then 5
     else 0 in
     loadedAs n (if eqb n 0 then poweredWith x else preparedState)
 

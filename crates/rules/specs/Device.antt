@@ -1,22 +1,32 @@
 -- The device table, and preparing a device.
-use Rattle.rules.specs.World.{ℕ, _+_, _-_, _*_, _^_, _≤_, _<_, _≡_, Bool, true, false, _&&_}
-use Rattle.rules.specs.World.{List, [], _∷_, _++_, getD, length, replicate, eqb, leb, if_then_else_, Row, Instruction, Kind, Level, State, World}
+use Rattle.rules.specs.World.{ℕ, _+_, _-_, _*_, _^_, _≤_, _<_, _≡_, Bool, true, false, not, _&&_}
+use Rattle.rules.specs.World.{List, [], _∷_, _++_, getD, length, replicate, eqb, leb, ltb, if_then_else_, Row, Instruction, Kind, Level, State, World}
 
--- 01, "What the bench models": one row for each device. `coded`: ST's code stands at the start of the identification page.
+-- 01, "What the bench models", and W-202: one row for each device. `identification`: how long the identification page is, 0 where there is
+-- none. `coded`: ST's code stands at its start.
 abbrev pub m95040 : Row
-m95040 = record { cells = 512; page = 16; width = 1; time = 5000; srwd = false; coded = false }
+m95040 = record { cells = 512; page = 16; identification = 16; width = 1; time = 5000; srwd = false; coded = false }
 
-abbrev pub m95128 : Row
-m95128 = record { cells = 16_384; page = 64; width = 2; time = 5000; srwd = true; coded = false }
+abbrev pub m95128d : Row
+m95128d = record { cells = 16_384; page = 64; identification = 64; width = 2; time = 5000; srwd = true; coded = false }
 
 abbrev pub m95m01 : Row
-m95m01 = record { cells = 131_072; page = 256; width = 3; time = 4000; srwd = true; coded = false }
+m95m01 = record { cells = 131_072; page = 256; identification = 256; width = 3; time = 4000; srwd = true; coded = false }
 
 abbrev pub m95m02 : Row
-m95m02 = record { cells = 262_144; page = 256; width = 3; time = 5000; srwd = true; coded = true }
+m95m02 = record { cells = 262_144; page = 256; identification = 256; width = 3; time = 5000; srwd = true; coded = true }
+
+abbrev pub m95010 : Row
+m95010 = record { cells = 128; page = 16; identification = 0; width = 1; time = 5000; srwd = false; coded = false }
+
+abbrev pub m95020 : Row
+m95020 = record { cells = 256; page = 16; identification = 0; width = 1; time = 5000; srwd = false; coded = false }
+
+abbrev pub m95128 : Row
+m95128 = record { cells = 16_384; page = 64; identification = 0; width = 2; time = 5000; srwd = true; coded = false }
 
 abbrev pub table : List Row
-table = m95040 ∷ m95128 ∷ m95m01 ∷ m95m02 ∷ []
+table = m95040 ∷ m95128d ∷ m95m01 ∷ m95m02 ∷ m95010 ∷ m95020 ∷ m95128 ∷ []
 
 -- Whether there is a device of this number, and its row (of no device: device 1's).
 abbrev pub isDevice : ℕ → Bool
@@ -28,6 +38,18 @@ rowOf n = getD table (n - 1) m95040
 -- What 01 says of device 1 in codes, in W and in the lock bit holds where the address is one byte.
 abbrev pub single : Row → Bool
 single row = eqb (row .width) 1
+
+-- W-202: whether there is an identification page; and whether bit 3 of READ's and WRITE's code is A8, which it is where one address byte
+-- cannot name every cell.
+abbrev pub hasIdentification : Row → Bool
+hasIdentification row = not (eqb (row .identification) 0)
+
+abbrev pub hasA8 : Row → Bool
+hasA8 row = single row && ltb 256 (row .cells)
+
+-- The code that ST writes at the start of the identification page, where it does.
+abbrev pub code : Row → List ℕ
+code row = if row .coded then 0x20 ∷ 0x00 ∷ 0x12 ∷ [] else []
 
 -- The facts on a row that every theorem goes by. No theorem asks for more, and every row of the table has them.
 -- Cells and pages are powers of two, and a quarter of the cells is whole pages; their bounds, as plain numbers too.
@@ -41,10 +63,13 @@ pub record Widths (row : Row) : Type 0 where
   pub cellsMost : row .cells ≤ 16_777_216
   pub pageLeast : 4 ≤ row .page
   pub pageMost : row .page ≤ 256
+  -- The identification page is a page, or there is none, and ST's code fits into it.
+  pub whole : hasIdentification row ≡ true → row .identification ≡ row .page
+  pub codeFits : length (code row) ≤ row .identification
   -- The address bytes, with the code's address bit where there is one, reach every cell.
   pub oneByte : 1 ≤ row .width
   pub threeBytes : row .width ≤ 3
-  pub reach : row .cells ≤ 256 ^ row .width * (if single row then 2 else 1)
+  pub reach : row .cells ≤ 256 ^ row .width * (if hasA8 row then 2 else 1)
   -- A write takes some time, and one that 32 bits hold.
   pub lasts : 1 ≤ row .time
   pub soon : row .time < 2 ^ 32
@@ -64,15 +89,11 @@ preparedState =
       filler = record { first = 0; second = 0; third = 0 };
     }
 
--- The code that ST writes at the start of the identification page, where it does.
-abbrev pub code : Row → List ℕ
-code row = if row .coded then 0x20 ∷ 0x00 ∷ 0x12 ∷ [] else []
-
 unfoldable pub prepared : Row → World
 prepared row =
     record {
       state = preparedState;
       cells = replicate (row .cells) 0xFF;
-      identification = code row ++ replicate (row .page - length (code row)) 0xFF;
+      identification = code row ++ replicate (row .identification - length (code row)) 0xFF;
       latch = replicate (row .page * 2) 0;
     }

@@ -1,26 +1,26 @@
 -- 01, "Instructions": the codes, what each instruction is and does, and forming an address.
 use Rattle.rules.specs.World.{Facts, Change, Source, ℕ, _+_, _-_, _*_, _%_, Bool, true, false, not, _&&_, _||_, List, [], _∷_, eqb, if_then_else_, bit, number, Row, Instruction, Kind, State}
 use Rattle.rules.specs.declared.Instruction.the-variants.{Wren, Wrdi, Rdsr, Wrsr, Read, Write, Rdid, Rdls, Wrid, Lid, Unknown}
-use Rattle.rules.specs.Device.{single}
+use Rattle.rules.specs.Device.{single, hasIdentification, hasA8}
 
-abbrev pub factsOf : Bool → Bool → Bool → Instruction → Source → Bool → Bool → Kind → Facts
-factsOf taken addressed paged lock sends sets resets starts =
-    record { taken = taken; addressed = addressed; paged = paged; lock = lock; sends = sends; sets = sets; resets = resets; starts = starts }
+abbrev pub factsOf : Bool → Bool → Bool → Bool → Instruction → Source → Bool → Bool → Kind → Facts
+factsOf taken addressed paged identifies lock sends sets resets starts =
+    record { taken = taken; addressed = addressed; paged = paged; identifies = identifies; lock = lock; sends = sends; sets = sets; resets = resets; starts = starts }
 
--- The instruction table. Columns: taken in a cycle too; an address follows; only its place in the page counts; what the lock bit
--- makes of it; what it sends; sets WEL; resets WEL; the cycle it starts.
+-- The instruction table. Columns: taken in a cycle too; an address follows; only its place in the page counts; it is of the
+-- identification page; what the lock bit makes of it; what it sends; sets WEL; resets WEL; the cycle it starts.
 abbrev pub facts : Instruction → Facts
-facts Wren = factsOf false false false Wren Source.Silent true false Kind.None
-facts Wrdi = factsOf true false false Wrdi Source.Silent false true Kind.None
-facts Rdsr = factsOf true false false Rdsr Source.Status false false Kind.None
-facts Wrsr = factsOf false false false Wrsr Source.Silent false false Kind.Status
-facts Read = factsOf false true false Read Source.Cells false false Kind.None
-facts Write = factsOf false true false Write Source.Silent false false Kind.Array
-facts Rdid = factsOf false true true Rdls Source.Identification false false Kind.None
-facts Rdls = factsOf false true false Rdls Source.Lock false false Kind.None
-facts Wrid = factsOf false true true Lid Source.Silent false false Kind.Identification
-facts Lid = factsOf false true false Lid Source.Silent false false Kind.Lock
-facts Unknown = factsOf false false false Unknown Source.Silent false false Kind.None
+facts Wren = factsOf false false false false Wren Source.Silent true false Kind.None
+facts Wrdi = factsOf true false false false Wrdi Source.Silent false true Kind.None
+facts Rdsr = factsOf true false false false Rdsr Source.Status false false Kind.None
+facts Wrsr = factsOf false false false false Wrsr Source.Silent false false Kind.Status
+facts Read = factsOf false true false false Read Source.Cells false false Kind.None
+facts Write = factsOf false true false false Write Source.Silent false false Kind.Array
+facts Rdid = factsOf false true true true Rdls Source.Identification false false Kind.None
+facts Rdls = factsOf false true false true Rdls Source.Lock false false Kind.None
+facts Wrid = factsOf false true true true Lid Source.Silent false false Kind.Identification
+facts Lid = factsOf false true false true Lid Source.Silent false false Kind.Lock
+facts Unknown = factsOf false false false false Unknown Source.Silent false false Kind.None
 
 -- The codes, whether each is exact, and what it means. Where the address is one byte, bit 3 does not count in a code that is not exact.
 abbrev pub codes : List (ℕ × Bool × Instruction)
@@ -32,8 +32,12 @@ abbrev pub lookUp : Bool → ℕ → List (ℕ × Bool × Instruction) → Instr
 lookUp one c [] = Unknown
 lookUp one c (k ∷ ks) = if eqb (if one && not (k .1) then c - number (bit c 3) * 8 else c) (k .0) then k .2 else lookUp one c ks
 
+abbrev pub named : Row → ℕ → Instruction
+named row c = lookUp (single row) c codes
+
+-- W-202: without an identification page its two codes are in no list.
 unfoldable pub decode : Row → ℕ → Instruction
-decode row c = lookUp (single row) c codes
+decode row c = if facts (named row c) .identifies && not (hasIdentification row) then Unknown else named row c
 
 -- A running cycle of each kind: whether it runs, and what its end changes.
 abbrev pub changeOf : Bool → Bool → Bool → Bool → Bool → Change
@@ -64,9 +68,9 @@ turnedAway s i = busy s && not (facts i .taken)
 abbrev pub commandBytes : Row → Instruction → ℕ
 commandBytes row i = if facts i .addressed then 1 + row .width else 1
 
--- The address before its first byte: on a device with one address byte, bit 3 of the code of READ and WRITE is A8.
+-- The address before its first byte: where a device has A8, bit 3 of the code of READ and WRITE is it.
 abbrev pub startAddress : Row → ℕ → Instruction → ℕ
-startAddress row c i = number (single row && facts i .addressed && not (facts i .paged) && bit c 3)
+startAddress row c i = number (hasA8 row && facts i .addressed && not (facts i .paged) && bit c 3)
 
 -- One more address byte, the most significant first. Bits above the array are ignored.
 unfoldable pub longer : Row → ℕ → ℕ → ℕ

@@ -13,6 +13,7 @@ pub mod Call
 pub mod Program
 pub mod Examples
 pub mod Readings
+pub mod Smaller
 pub mod Selections
 pub mod Recorded
 pub mod Loaded

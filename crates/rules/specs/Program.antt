@@ -1,6 +1,6 @@
 -- 01, "Bench program": what it prints, byte for byte, as one function of its input. Texts are lists of ASCII codes.
 use Rattle.rules.specs.World.{ℕ, zero, suc, _+_, _/_, _%_, _≡_, true, false, List, [], _∷_, _++_, take, drop, replicate, length, eqb, ltb, if_then_else_, withStored, withState, Each}
-use Rattle.rules.specs.Device.{m95128, rowOf, preparedState, prepared}
+use Rattle.rules.specs.Device.{m95128d, rowOf, preparedState, prepared}
 use Rattle.rules.specs.Send.{statusByte}
 use Rattle.rules.specs.Trace.{Progress, progressOf}
 use Rattle.rules.specs.Call.{runOutcome, firstRecord}
@@ -104,7 +104,7 @@ printed-device-four = (benchText (3 ∷ 0 ∷ 16 ∷ 0 ∷ 4 ∷ []), 101 ∷ 11
 abbrev pub printed-levels : Line
 printed-levels = (
   runText
-      (progressOf 11 0 3 (withState (withStored (record { status = 0x8C; wel = true; locked = false }) (preparedState .cycle) 0 0 preparedState) (prepared m95128)) (0 ∷ 1 ∷ 2 ∷ 1 ∷ [])),
+      (progressOf 11 0 3 (withState (withStored (record { status = 0x8C; wel = true; locked = false }) (preparedState .cycle) 0 0 preparedState) (prepared m95128d)) (0 ∷ 1 ∷ 2 ∷ 1 ∷ [])),
   header ++ (49 ∷ 32 ∷ 48 ∷ 10 ∷ 50 ∷ 32 ∷ 49 ∷ 10 ∷ 51 ∷ 32 ∷ 90 ∷ 10 ∷ 101 ∷ 110 ∷ 100 ∷ 32 ∷ 49 ∷ 49 ∷ 32 ∷ 56 ∷ 69 ∷ 10 ∷ []),
 )
 

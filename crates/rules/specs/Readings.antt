@@ -14,7 +14,7 @@ abbrev clocks : List Event
 clocks = Event.Clock true ∷ Event.Clock false ∷ []
 
 -- Eight bits of Z.
-abbrev silence : ℕ
+abbrev pub silence : ℕ
 silence = 65_280
 
 -- A WRITE in a cycle leaves that cycle's latch alone; S low after power selects nothing; W low for a moment stops WRSR.

@@ -1,8 +1,9 @@
--- Demand 3 said for the product: for every device number, from every world that the public calls take; and for traces that the public call runs.
+-- Demand 3 said for the product: for every device number, from every world that the public calls take; for each of the seven devices; and for
+-- traces that the public call runs.
 use Rattle.rules.specs.World.{ℕ, zero, suc, _+_, _*_, _/_, _%_, _≤_, _≡_, Bool, true, _&&_, List, [], _∷_, _++_, map, take, drop, length, eqb, ltb, number, Row, Event, World}
-use Rattle.rules.specs.Device.{m95128, rowOf, prepared}
+use Rattle.rules.specs.Device.{m95128d, isDevice, rowOf, prepared}
 use Rattle.rules.specs.Event.{refusal, next}
-use Rattle.rules.specs.Sound.{all}
+use Rattle.rules.specs.Sound.{all, Sound, Lent}
 use Rattle.rules.specs.Trace.{Progress}
 use Rattle.rules.specs.Call.{worldRefusal, runOutcome}
 use Rattle.rules.specs.Selections.{Contents, contents, sights, Cut, Unseen, happened, remaining, Incident}
@@ -10,6 +11,14 @@ use Rattle.rules.specs.Selections.{Contents, contents, sights, Cut, Unse
 -- The theorem `demand-3-devices`: 0 says that there is such a device, that the buffers have its lengths and that the state is sound, so no more is asked.
 abbrev pub Demand3Devices : Type 0
 Demand3Devices = (device : ℕ) (w : World) → worldRefusal device w ≡ 0 → (es ks : List Event) (c : Cut (rowOf device) w es ks) → Unseen c
+
+-- The theorem `demand-3-seven`, in so many words: each number from 1 to 7 is a device's, and for each of these devices demand 3 holds, from
+-- every sound state, in buffers of the device's lengths.
+abbrev pub Demand3Seven : Type 0
+Demand3Seven =
+    (device : ℕ) → 1 ≤ device → device ≤ 7
+    → (isDevice device ≡ true)
+    × ((w : World) → Sound (rowOf device) w → Lent (rowOf device) w → (es ks : List Event) (c : Cut (rowOf device) w es ks) → Unseen c)
 
 -- k bytes of n, the least significant first.
 abbrev pub bytesOf : ℕ → ℕ → List ℕ
@@ -103,4 +112,4 @@ Demand3Run =
 abbrev pub IncidentRun : Incident → Type 0
 IncidentRun c =
     (answers : List ℕ) (limit : ℕ) → 226 ≤ length answers → 226 ≤ limit
-    → Alike 2 c (runOutcome 2 (prepared m95128) (recorded happened) answers limit) (runOutcome 2 (prepared m95128) (recorded remaining) answers limit)
+    → Alike 2 c (runOutcome 2 (prepared m95128d) (recorded happened) answers limit) (runOutcome 2 (prepared m95128d) (recorded remaining) answers limit)

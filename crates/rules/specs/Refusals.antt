@@ -34,8 +34,8 @@ abbrev pub prepare-taken : Line
 prepare-taken =
     prepare 1 (replicate 512 0) (replicate 16 0) (replicate 32 9) (preparedAs 0 (lent (replicate 512 0xFF) (replicate 16 0xFF) (replicate 32 0)))
 
-abbrev pub prepare-device-five : Line
-prepare-device-five = prepare 5 (7 ∷ []) (8 ∷ []) (9 ∷ []) (preparedAs 1 (lent (7 ∷ []) (8 ∷ []) (9 ∷ [])))
+abbrev pub prepare-device-eight : Line
+prepare-device-eight = prepare 8 (7 ∷ []) (8 ∷ []) (9 ∷ []) (preparedAs 1 (lent (7 ∷ []) (8 ∷ []) (9 ∷ [])))
 
 abbrev pub prepare-device-zero : Line
 prepare-device-zero = prepare 0 [] [] [] (preparedAs 1 (lent [] [] []))
@@ -49,7 +49,22 @@ prepare-identification = prepare 1 (replicate 512 7) (8 ∷ []) (9 ∷ []) (prep
 abbrev pub prepare-latch : Line
 prepare-latch = prepare 1 (replicate 512 7) (replicate 16 8) (replicate 16 9) (preparedAs 4 (lent (replicate 512 7) (replicate 16 8) (replicate 16 9)))
 
--- Loading: every bit that the device has is taken, and every other is refused, above a byte too; a lock is 0 or 1. 1 comes before 5.
+-- W-202: the smaller boards are prepared as they are, with no identification byte; any such byte is refused.
+abbrev pub prepare-the-m95010 : Line
+prepare-the-m95010 = prepare 5 (replicate 128 0) [] (replicate 32 9) (preparedAs 0 (lent (replicate 128 0xFF) [] (replicate 32 0)))
+
+abbrev pub prepare-the-m95020 : Line
+prepare-the-m95020 = prepare 6 (replicate 256 0) [] (replicate 32 9) (preparedAs 0 (lent (replicate 256 0xFF) [] (replicate 32 0)))
+
+abbrev pub prepare-the-m95128 : Line
+prepare-the-m95128 = prepare 7 (replicate 16_384 0) [] (replicate 128 9) (preparedAs 0 (lent (replicate 16_384 0xFF) [] (replicate 128 0)))
+
+abbrev pub prepare-a-page-where-there-is-none : Line
+prepare-a-page-where-there-is-none =
+    prepare 5 (replicate 128 7) (replicate 16 8) (9 ∷ []) (preparedAs 3 (lent (replicate 128 7) (replicate 16 8) (9 ∷ [])))
+
+-- Loading: every bit that the device has is taken, and every other is refused, above a byte too; a lock is 0 or 1, and 0 alone where there is
+-- no page to lock. 1 comes before 5.
 abbrev withRegisters : ℕ → Bool → Bool → State
 withRegisters status wel locked = withStored (record { status = status; wel = wel; locked = locked }) (preparedState .cycle) 0 0 preparedState
 
@@ -60,7 +75,7 @@ abbrev pub load-nothing : Line
 load-nothing = load 4 (storedAs 0 0) (loadedAs 0 preparedState)
 
 abbrev pub load-no-device : Line
-load-no-device = load 5 (storedAs 0xFF 2) (loadedAs 1 preparedState)
+load-no-device = load 8 (storedAs 0xFF 2) (loadedAs 1 preparedState)
 
 abbrev pub load-no-srwd : Line
 load-no-srwd = load 1 (storedAs 0x8C 1) (loadedAs 5 preparedState)
@@ -73,6 +88,12 @@ load-above-a-byte = load 3 (storedAs 0x104 0) (loadedAs 5 preparedState)
 
 abbrev pub load-lock : Line
 load-lock = load 1 (storedAs 0x0C 2) (loadedAs 5 preparedState)
+
+abbrev pub load-without-a-page : Line
+load-without-a-page = load 7 (storedAs 0x8C 0) (loadedAs 0 (withRegisters 0x8C false false))
+
+abbrev pub load-lock-without-a-page : Line
+load-lock-without-a-page = load 7 (storedAs 0x8C 1) (loadedAs 5 preparedState)
 
 -- What a state has stored: in a cycle that will change it still the old, and WEL is none of it.
 abbrev changing : Kind → State
@@ -141,6 +162,47 @@ event-mark = event 1 badMark Event.Power (repliedAs 5 2 badMark)
 
 abbrev pub event-power-in-a-cycle : Line
 event-power-in-a-cycle = event 1 inCycle Event.Power (repliedAs 11 2 inCycle)
+
+-- W-202: an identification byte where there is no page. And the codes as their eighth bit comes in: 0Bh on the M95020 is READ and its address
+-- starts from 0, where the M95040 starts from A8; 83h is as unknown on the M95128 in a cycle as out of it, and turned away.
+abbrev small : World
+small = lent (replicate 256 7) [] (replicate 32 1)
+
+abbrev pageOfNone : World
+pageOfNone = worldOf astray (small .cells) (8 ∷ []) (9 ∷ [])
+
+abbrev pub event-a-page-where-there-is-none : Line
+event-a-page-where-there-is-none = event 6 pageOfNone Event.Power (repliedAs 3 2 pageOfNone)
+
+-- Seven bits of a code with D at its last bit, and the whole code.
+abbrev coding : ℕ → State → State
+coding value s =
+    withPins (record { c = false; d = true; s = false; hold = true; w = true })
+    (withSelection 0 (chosen .selection) (record { bits = 7; value = value; bytes = 0; last = 0 }) (chosen .command) (chosen .output) s)
+
+abbrev coded : ℕ → ℕ → Instruction → Bool → State → State
+coded code address i away s =
+    withPins (record { c = true; d = true; s = false; hold = true; w = true })
+    (withSelection address (chosen .selection) (record { bits = 0; value = 0; bytes = 1; last = code }) (record { instruction = i; away = away })
+    (chosen .output) s)
+
+abbrev pub event-a8 : Line
+event-a8 =
+    event 1 (withState (coding 0x05 preparedState) good) (Event.Clock true)
+    (repliedAs 0 2 (withState (coded 0x0B 1 Instruction.Read false preparedState) good))
+
+abbrev pub event-no-a8 : Line
+event-no-a8 =
+    event 6 (withState (coding 0x05 preparedState) small) (Event.Clock true)
+    (repliedAs 0 2 (withState (coded 0x0B 0 Instruction.Read false preparedState) small))
+
+abbrev written : State
+written = withStored (record { status = 0; wel = true; locked = false }) (record { kind = Kind.Array; next = 0 }) 0 1 preparedState
+
+abbrev pub event-83h-in-a-cycle : Line
+event-83h-in-a-cycle =
+    event 6 (withState (coding 0x41 written) small) (Event.Clock true)
+    (repliedAs 0 2 (withState (coded 0x83 0 Instruction.Unknown true written) small))
 
 -- Records.
 abbrev pin : ℕ → List ℕ
@@ -221,6 +283,9 @@ run-cells = run 1 noCells (1 ∷ []) (9 ∷ []) 1 (nothing 2 noCells)
 abbrev pub run-identification : Line
 run-identification = run 1 noIdentification (pin 4) (9 ∷ []) 1 (nothing 3 noIdentification)
 
+abbrev pub run-a-page-where-there-is-none : Line
+run-a-page-where-there-is-none = run 6 pageOfNone (pin 4) (9 ∷ []) 1 (nothing 3 pageOfNone)
+
 abbrev pub run-latch : Line
 run-latch = run 1 noLatch (pin 4) (9 ∷ []) 1 (nothing 4 noLatch)
 
@@ -292,7 +357,7 @@ abbrev pub view-cells-other-length : Line
 view-cells-other-length = view 1 Region.Cells striped (8 ∷ []) 512 (shownAs 3 [])
 
 abbrev pub view-identification-device : Line
-view-identification-device = view 5 Region.Identification (7 ∷ []) (8 ∷ []) 0 (shownAs 1 [])
+view-identification-device = view 8 Region.Identification (7 ∷ []) (8 ∷ []) 0 (shownAs 1 [])
 
 abbrev pub view-identification-other-length : Line
 view-identification-other-length = view 1 Region.Identification (7 ∷ []) (8 ∷ []) 0 (shownAs 2 [])
@@ -307,7 +372,17 @@ view-cells-other-alone = view 1 Region.Cells striped (8 ∷ []) 32 (shownAs 3 []
 abbrev pub view-identification-other-alone : Line
 view-identification-other-alone = view 1 Region.Identification (7 ∷ []) sevens 0 (shownAs 2 [])
 
--- The bench's first record: 12 before all else, then 6, 7, 8, 6, 1.
+-- W-202: where there is no identification page its part is empty, and the slice lent for it too, whichever region is asked for.
+abbrev pub view-no-page : Line
+view-no-page = view 6 Region.Identification (small .cells) [] 256 (shownAs 0 [])
+
+abbrev pub view-cells-without-a-page : Line
+view-cells-without-a-page = view 6 Region.Cells (small .cells) [] 255 (shownAs 0 sevens)
+
+abbrev pub view-a-page-where-there-is-none : Line
+view-a-page-where-there-is-none = view 6 Region.Identification (small .cells) sevens 0 (shownAs 3 [])
+
+-- The bench's first record: 12 before all else, then 6, 7, 8, 6, 1. It takes devices 1 and 2 alone, whatever more the table has.
 abbrev pub first-taken : Line
 first-taken = first (3 ∷ 0 ∷ 16 ∷ 0 ∷ 2 ∷ []) (firstAs 0 2)
 
@@ -332,23 +407,29 @@ first-no-body = first (3 ∷ 0 ∷ 16 ∷ 0 ∷ []) (firstAs 6 0)
 abbrev pub first-device-three : Line
 first-device-three = first (3 ∷ 0 ∷ 16 ∷ 0 ∷ 3 ∷ []) (firstAs 1 3)
 
+abbrev pub first-device-seven : Line
+first-device-seven = first (3 ∷ 0 ∷ 16 ∷ 0 ∷ 7 ∷ []) (firstAs 1 7)
+
 abbrev pub first-device-zero : Line
 first-device-zero = first (3 ∷ 0 ∷ 16 ∷ 0 ∷ 0 ∷ []) (firstAs 1 0)
 
 abbrev pub refusals : List Line
 refusals =
-    prepare-taken ∷ prepare-device-five ∷ prepare-device-zero ∷ prepare-cells ∷ prepare-identification ∷ prepare-latch ∷ load-all-bits
-    ∷ load-nothing ∷ load-no-device ∷ load-no-srwd ∷ load-wel ∷ load-above-a-byte ∷ load-lock ∷ stored-in-a-status-cycle
+    prepare-taken ∷ prepare-device-eight ∷ prepare-device-zero ∷ prepare-cells ∷ prepare-identification ∷ prepare-latch ∷ prepare-the-m95010
+    ∷ prepare-the-m95020 ∷ prepare-the-m95128 ∷ prepare-a-page-where-there-is-none ∷ load-all-bits
+    ∷ load-nothing ∷ load-no-device ∷ load-no-srwd ∷ load-wel ∷ load-above-a-byte ∷ load-lock ∷ load-without-a-page ∷ load-lock-without-a-page ∷ stored-in-a-status-cycle
     ∷ stored-in-a-lock-cycle ∷ stored-lock ∷ event-taken
-    ∷ event-device ∷ event-cells ∷ event-identification ∷ event-latch ∷ event-mark ∷ event-power-in-a-cycle ∷ run-to-its-end ∷ run-to-its-limit
+    ∷ event-device ∷ event-cells ∷ event-identification ∷ event-latch ∷ event-mark ∷ event-power-in-a-cycle ∷ event-a-page-where-there-is-none
+    ∷ event-a8 ∷ event-no-a8 ∷ event-83h-in-a-cycle ∷ run-to-its-end ∷ run-to-its-limit
     ∷ run-data-select-protect ∷ run-clock-hold ∷ run-wait ∷ run-wait-third-byte ∷ run-wait-fourth-byte ∷ run-answers-low ∷ run-answers-high
-    ∷ run-device ∷ run-cells ∷ run-identification ∷ run-latch ∷ run-mark ∷ run-no-four-bytes ∷ run-unknown-kind ∷ run-kind-of-two-bytes
+    ∷ run-device ∷ run-cells ∷ run-identification ∷ run-a-page-where-there-is-none ∷ run-latch ∷ run-mark ∷ run-no-four-bytes ∷ run-unknown-kind ∷ run-kind-of-two-bytes
     ∷ run-wrong-length ∷ run-length-of-two-bytes ∷ run-no-body ∷ run-no-pin ∷ run-no-answer-left ∷ run-power-in-a-cycle
     ∷ view-cells-first-address ∷ view-cells-last-address ∷ view-cells-last-cell ∷ view-cells-past-the-cells ∷ view-identification-shown
     ∷ view-identification-past-the-cells ∷ view-cells-device ∷ view-cells-length ∷ view-cells-other-length ∷ view-identification-device
-    ∷ view-identification-other-length ∷ view-identification-length ∷ view-cells-other-alone ∷ view-identification-other-alone ∷ first-taken
+    ∷ view-identification-other-length ∷ view-identification-length ∷ view-cells-other-alone ∷ view-identification-other-alone ∷ view-no-page
+    ∷ view-cells-without-a-page ∷ view-a-page-where-there-is-none ∷ first-taken
     ∷ first-too-long ∷ first-of-32768-bytes ∷ first-no-four-bytes ∷ first-other-kind ∷ first-other-length ∷ first-no-body ∷ first-device-three
-    ∷ first-device-zero ∷ []
+    ∷ first-device-seven ∷ first-device-zero ∷ []
 
 -- The theorem `refusals`: each call gives its whole outcome as expected.
 abbrev pub Given : List Line → Type 0

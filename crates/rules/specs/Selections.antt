@@ -1,6 +1,6 @@
 -- Demand 3: a selection whose decoded clock rises number zero, or are no multiple of eight, may be taken out.
 use Rattle.rules.specs.World.{ℕ, suc, _%_, _≡_, Bool, true, false, not, _&&_, List, [], _∷_, _++_, eqb, if_then_else_, Row, Level, Event, World}
-use Rattle.rules.specs.Device.{Widths, m95128, prepared}
+use Rattle.rules.specs.Device.{Widths, m95128d, prepared}
 use Rattle.rules.specs.Send.{statusByte}
 use Rattle.rules.specs.Event.{pinsAfter, decodes, answer, refusal, next, after}
 use Rattle.rules.specs.Sound.{Sound, Lent}
@@ -101,4 +101,4 @@ abbrev pub remaining : List Event
 remaining = enabling ++ bounced ++ reading
 
 abbrev pub Incident : Type 0
-Incident = Cut m95128 (prepared m95128) happened remaining
+Incident = Cut m95128d (prepared m95128d) happened remaining

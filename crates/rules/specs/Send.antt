@@ -23,7 +23,7 @@ abbrev pub going : Row → Source → ℕ → Going
 going row Source.Silent a = goes false a false
 going row Source.Status a = goes true a false
 going row Source.Cells a = goes true ((a + 1) % row .cells) false
-going row Source.Identification a = goes true (min (a + 1) (row .page)) (leb (row .page) a)
+going row Source.Identification a = goes true (min (a + 1) (row .identification)) (leb (row .identification) a)
 going row Source.Lock a = goes true a false
 
 abbrev pub sourceOf : State → Source

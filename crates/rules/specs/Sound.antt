@@ -1,8 +1,8 @@
 -- 01, "The device's state": the sound states, as a test that runs, and as a record of facts that theorems use.
 use Rattle.rules.specs.World.{_++_, State, ℕ, _+_, _%_, _^_, _≤_, _<_, _≡_, Bool, true, false, not, _&&_, _||_}
-use Rattle.rules.specs.World.{List, [], _∷_, getD, drop, length, eqb, leb, ltb, if_then_else_, Row, Kind, Level, Event, Selection, Input, Output, World}
+use Rattle.rules.specs.World.{List, [], _∷_, getD, drop, length, eqb, leb, ltb, if_then_else_, Row, Instruction, Kind, Level, Event, Selection, Input, Output, World}
 use mathlib.Core.Bool.{Bool·beq}
-use Rattle.rules.specs.Device.{Widths}
+use Rattle.rules.specs.Device.{Widths, hasIdentification}
 use Rattle.rules.specs.Instruction.{facts, changes, busy}
 use Rattle.rules.specs.Judge.{storable}
 use Rattle.rules.specs.Event.{step}
@@ -56,9 +56,20 @@ selectedClauses s =
     ∷ (s .selection .selected implies s .pins .c || Bool·beq (s .selection .held) (not (s .pins .hold)))
     ∷ []
 
+-- W-202: without an identification page nothing is of it: no lock, no running cycle, and no instruction, in a deselected state too.
+abbrev pub ofPage : Kind → Bool
+ofPage k = changes k .identification || changes k .lock
+
+abbrev pub pageClauses : Row → State → List Bool
+pageClauses row s =
+    (s .registers .locked implies hasIdentification row)
+    ∷ (ofPage (s .cycle .kind) implies hasIdentification row)
+    ∷ (facts (s .command .instruction) .identifies implies hasIdentification row)
+    ∷ []
+
 -- And the marks.
 unfoldable pub clauses : Row → State → List ℕ → List Bool
-clauses row s latch = receivedClauses row s ++ cycleClauses row s ++ restingClauses s ++ selectedClauses s ++ areMarks (drop (row .page) latch) ∷ []
+clauses row s latch = receivedClauses row s ++ cycleClauses row s ++ restingClauses s ++ selectedClauses s ++ pageClauses row s ++ areMarks (drop (row .page) latch) ∷ []
 
 unfoldable pub isSound : Row → State → List ℕ → Bool
 isSound row s latch = all (clauses row s latch)
@@ -76,6 +87,12 @@ pub record SoundCycle (row : Row) (k : Kind) (next start left : ℕ) : Type 0 wh
   pub aligned : start % row .page ≡ 0
   pub inside : start < row .cells
   pub first : changes k .identification ≡ true → start ≡ 0
+  pub paged : ofPage k ≡ true → hasIdentification row ≡ true
+
+-- A lock, and an instruction of the identification page, are there only with that page.
+pub record SoundPage (row : Row) (locked : Bool) (i : Instruction) : Type 0 where
+  pub lockable : locked ≡ true → hasIdentification row ≡ true
+  pub named : facts i .identifies ≡ true → hasIdentification row ≡ true
 
 pub record Off (x : Selection) (i : Input) (o : Output) : Type 0 where
   pub held : x .held ≡ false
@@ -88,6 +105,7 @@ pub record Unsettled (row : Row) (w : World) : Type 0 where
   pub input : SoundInput (w .state .input)
   pub inside : w .state .place .address < row .cells
   pub stored : storable row (w .state .registers .status) ≡ w .state .registers .status
+  pub page : SoundPage row (w .state .registers .locked) (w .state .command .instruction)
   pub cycle : SoundCycle row (w .state .cycle .kind) (w .state .cycle .next) (w .state .place .start) (w .state .place .left)
   pub off : w .state .selection .selected ≡ false → Off (w .state .selection) (w .state .input) (w .state .output)
   pub low : w .state .selection .selected ≡ true → w .state .pins .s ≡ false
@@ -102,7 +120,7 @@ pub record Sound (row : Row) (w : World) : Type 0 where
 -- The lent buffers have the device's lengths.
 pub record Lent (row : Row) (w : World) : Type 0 where
   pub cells : length (w .cells) ≡ row .cells
-  pub identification : length (w .identification) ≡ row .page
+  pub identification : length (w .identification) ≡ row .identification
   pub latch : length (w .latch) ≡ row .page + row .page
 
 -- The theorem `reads`: the test and the facts say the same. The theorem `preserved`: every event keeps a sound world sound and its lists as long.

@@ -1,6 +1,6 @@
 -- 01, "The device's state", by example: each clause of soundness broken alone, which gets 5 and changes nothing; and a state at the edge of every
--- clause, which is taken. Each line is an event on an M95040.
-use Rattle.rules.specs.World.{ℕ, Bool, true, false, List, [], _∷_, Instruction, Kind, Level, Event, State, withPins, withSelection, withStored, withState}
+-- clause, which is taken. Each line is an event on an M95040, and those on W-202's clauses one on an M95128.
+use Rattle.rules.specs.World.{ℕ, Bool, true, false, List, [], _∷_, replicate, Instruction, Kind, Level, Event, State, World, worldOf, withPins, withSelection, withStored, withState}
 use Rattle.rules.specs.Device.{preparedState}
 use Rattle.rules.specs.Call.{repliedAs}
 use Rattle.rules.specs.Refusals.{Line, event, good, astray, busy, chosen}
@@ -107,10 +107,46 @@ abbrev pub sound-at-its-edges : Line
 sound-at-its-edges =
     event 1 (withState (reading (busy 5000) true) good) (Event.Clock true) (repliedAs 0 2 (withState (reading (busy 5000) true) good))
 
+-- W-202, without an identification page: nothing of it may be there. Not selected and all else at rest, a lock, a cycle of the page, or an
+-- instruction of it that a device with a page had left; what another command left is taken.
+abbrev plain : State → World
+plain s = worldOf s (replicate 16_384 7) [] (replicate 128 1)
+
+abbrev unlikely : State → Line
+unlikely s = event 7 (plain s) (Event.Data true) (repliedAs 5 2 (plain s))
+
+abbrev left : Instruction → State
+left i = withSelection 0 (preparedState .selection) (preparedState .input) (record { instruction = i; away = false }) (preparedState .output) preparedState
+
+abbrev pub locked-without-a-page : Line
+locked-without-a-page = unlikely (withStored (record { status = 0; wel = false; locked = true }) (preparedState .cycle) 0 0 preparedState)
+
+abbrev pub identification-cycle-without-a-page : Line
+identification-cycle-without-a-page = unlikely (stored 0 0 Kind.Identification 0 5000)
+
+abbrev pub lock-cycle-without-a-page : Line
+lock-cycle-without-a-page = unlikely (stored 0 0 Kind.Lock 0 5000)
+
+abbrev pub rdid-left-without-a-page : Line
+rdid-left-without-a-page = unlikely (left Instruction.Rdid)
+
+abbrev pub rdls-left-without-a-page : Line
+rdls-left-without-a-page = unlikely (left Instruction.Rdls)
+
+abbrev pub wrid-left-without-a-page : Line
+wrid-left-without-a-page = unlikely (left Instruction.Wrid)
+
+abbrev pub lid-left-without-a-page : Line
+lid-left-without-a-page = unlikely (left Instruction.Lid)
+
+abbrev pub write-left-without-a-page : Line
+write-left-without-a-page = event 7 (plain (left Instruction.Write)) (Event.Select true) (repliedAs 0 2 (plain (left Instruction.Write)))
+
 abbrev pub unsound : List Line
 unsound =
     eight-bits ∷ value-of-too-many-bits ∷ seven-bytes ∷ address-past-the-cells ∷ status-bit-of-no-device ∷ srwd-on-the-m95040
     ∷ new-status-bit-of-no-device ∷ cycle-with-no-time ∷ cycle-with-too-much-time ∷ time-with-no-cycle ∷ start-inside-a-page
     ∷ start-past-the-cells ∷ identification-cycle-elsewhere ∷ held-and-not-selected ∷ bit-and-not-selected ∷ byte-and-not-selected
     ∷ level-and-not-selected ∷ selected-with-s-high ∷ w-low-and-not-seen ∷ held-with-hold-high ∷ not-held-with-hold-low ∷ read-taken-in-a-cycle
-    ∷ sound-at-its-edges ∷ []
+    ∷ sound-at-its-edges ∷ locked-without-a-page ∷ identification-cycle-without-a-page ∷ lock-cycle-without-a-page
+    ∷ rdid-left-without-a-page ∷ rdls-left-without-a-page ∷ wrid-left-without-a-page ∷ lid-left-without-a-page ∷ write-left-without-a-page ∷ []

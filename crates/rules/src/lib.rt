@@ -1,10 +1,12 @@
 // The types of the bench: a device's row, its state in groups, instructions, cycles, output levels, events.
 // The rules of specs/ are functions on these, and the product's code runs on them.
 
-// One row of the device table (document 01, "What the bench models").
+// One row of the device table (document 01, "What the bench models"; document 02, W-202). The identification page has a length of its
+// own: a page, or 0 where the device has none.
 pub struct Row {
     pub cells: usize,
     pub page: usize,
+    pub identification: usize,
     pub width: usize,
     pub time: usize,
     pub srwd: bool,
@@ -44,12 +46,13 @@ pub enum Source {
     Lock,
 }
 
-// One row of the instruction table: taken in a cycle too; an address follows; only its place in the page counts; what the lock
-// bit makes of it; what it sends; sets WEL; resets WEL; the cycle it starts.
+// One row of the instruction table: taken in a cycle too; an address follows; only its place in the page counts; it is of the
+// identification page; what the lock bit makes of it; what it sends; sets WEL; resets WEL; the cycle it starts.
 pub struct Facts {
     pub taken: bool,
     pub addressed: bool,
     pub paged: bool,
+    pub identifies: bool,
     pub lock: Instruction,
     pub sends: Source,
     pub sets: bool,

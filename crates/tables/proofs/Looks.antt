@@ -1,18 +1,19 @@
 -- Looking a code up, in one step for each way through the code; and the arm that a value is taken by.
 use Prim.Native.Nat.{ℕ, zero, suc, _-_, _*_, _<_}
 use mathlib.Core.Path.{_≡_, refl, sym, ap, _∙_}
-use mathlib.Core.Bool.{Bool, true, false}
+use mathlib.Core.Bool.{Bool, true, false, not, _&&_}
 use mathlib.Core.List.{List, [], _∷_}
 use native.Mathlib.Omega.{arith}
 use lib.ListN.{length, getD}
 use lib.Dec.{eqb}
 use borrow.Author.Tests.{ne-eqb}
 use Rattle.rules.specs.declared.Row.{Row}
+use Rattle.rules.specs.declared.Facts.{Facts}
 use Rattle.rules.specs.declared.Instruction.{Instruction}
 use Rattle.rules.specs.declared.Instruction.the-variants.{Wren, Wrdi, Rdsr, Wrsr, Read, Write, Rdid, Wrid, Unknown}
 use Rattle.rules.specs.World.{if_then_else_, bit, number}
-use Rattle.rules.specs.Device.{single}
-use Rattle.rules.specs.Instruction.{lookUp, codes, decode}
+use Rattle.rules.specs.Device.{single, hasIdentification}
+use Rattle.rules.specs.Instruction.{facts, lookUp, codes, named, decode}
 
 -- What the arm of a value says holds of whatever is that value.
 pub arm : {A B : Type 0} (f : A → B) {x y : A} {b : B} → x ≡ y → b ≡ f y → b ≡ f x
@@ -33,22 +34,19 @@ look : (one : Bool) (c : ℕ) {p : ℕ} → p ≡ (if one then c - number (bit c
 look true c e a b = rw (e, ne-eqb c 0x83 a, ne-eqb c 0x82 b)
 look false c e a b = rw (e, ne-eqb c 0x83 a, ne-eqb c 0x82 b)
 
-pub decode-plain : (row : Row) (c : ℕ) {p : ℕ} {i : Instruction} → p ≡ (if single row then c - number (bit c 3) * 8 else c) → (c ≡ 0x83 → ⊥) → (c ≡ 0x82 → ⊥) → i ≡ plainly p
-    → i ≡ decode row c
-unfolding decode
-decode-plain row c e a b f = f ∙ look (single row) c e a b
+pub named-plain : (row : Row) (c : ℕ) {p : ℕ} {i : Instruction} → p ≡ (if single row then c - number (bit c 3) * 8 else c) → (c ≡ 0x83 → ⊥) → (c ≡ 0x82 → ⊥) → i ≡ plainly p
+    → i ≡ named row c
+named-plain row c e a b f = f ∙ look (single row) c e a b
 
 exact : (one : Bool) → (Rdid ≡ lookUp one 0x83 codes) × (Wrid ≡ lookUp one 0x82 codes)
 exact true = (refl, refl)
 exact false = (refl, refl)
 
-pub decode-rdid : (row : Row) (c : ℕ) → c ≡ 0x83 → Rdid ≡ decode row c
-unfolding decode
-decode-rdid row c e = rw e (exact (single row) .0)
+pub named-rdid : (row : Row) (c : ℕ) → c ≡ 0x83 → Rdid ≡ named row c
+named-rdid row c e = rw e (exact (single row) .0)
 
-pub decode-wrid : (row : Row) (c : ℕ) → c ≡ 0x82 → Wrid ≡ decode row c
-unfolding decode
-decode-wrid row c e = rw e (exact (single row) .1)
+pub named-wrid : (row : Row) (c : ℕ) → c ≡ 0x82 → Wrid ≡ named row c
+named-wrid row c e = rw e (exact (single row) .1)
 
 pub plain-one : (row : Row) (c : ℕ) {p : ℕ} → row .width ≡ 1 → p ≡ c - number (bit c 3) * 8 → p ≡ (if single row then c - number (bit c 3) * 8 else c)
 plain-one row c e f = f ∙ rw e
@@ -58,6 +56,16 @@ plain-more row c e = rw (ne-eqb (row .width) 1 e)
 
 pub plain-none : (p : ℕ) → (p ≡ 0x06 → ⊥) → (p ≡ 0x04 → ⊥) → (p ≡ 0x05 → ⊥) → (p ≡ 0x01 → ⊥) → (p ≡ 0x03 → ⊥) → (p ≡ 0x02 → ⊥) → Unknown ≡ plainly p
 plain-none p a b c d e f = rw (ne-eqb p 0x06 a, ne-eqb p 0x04 b, ne-eqb p 0x05 c, ne-eqb p 0x01 d, ne-eqb p 0x03 e, ne-eqb p 0x02 f)
+
+-- What a code names is what it means, but where that is of an identification page and there is none.
+module _ (row : Row) (c : ℕ) {i : Instruction} {f : Facts} {there : Bool} (ei : i ≡ named row c) (ef : f ≡ facts i) (eh : there ≡ hasIdentification row) where
+  pub decode-none : (f .identifies && not there) ≡ true → Unknown ≡ decode row c
+  unfolding decode
+  decode-none e = rw (rw (eh, ef, ei) at e)
+
+  pub decode-named : (f .identifies && not there) ≡ false → i ≡ decode row c
+  unfolding decode
+  decode-named e = rw (rw (eh, ef, ei) at e) ei
 
 -- A row of the table does not depend on what is read past its end.
 pub any-default : {A : Type 0} (l : List A) (i : ℕ) (d e : A) → i < length l → getD l i d ≡ getD l i e

@@ -3,8 +3,8 @@
 ghost use mathlib.Core.Path.{_≡_};
 ghost use Prim.Native.Nat.{_-_, _*_};
 ghost use Rattle.rules.specs.World.{if_then_else_, bit, number};
-ghost use Rattle.rules.specs.Device.{isDevice, rowOf, single};
-ghost use Rattle.rules.specs.Instruction.{factsOf, facts, decode, changeOf, changes};
+ghost use Rattle.rules.specs.Device.{isDevice, rowOf, single, hasIdentification, hasA8};
+ghost use Rattle.rules.specs.Instruction.{factsOf, facts, named, decode, changeOf, changes};
 use rules::Change;
 use rules::Facts;
 use rules::Instruction;
@@ -12,10 +12,11 @@ use rules::Kind;
 use rules::Row;
 use rules::Source;
 
-const ROWS: [Row; 4] = [
+const ROWS: [Row; 7] = [
     Row {
         cells: 512,
         page: 16,
+        identification: 16,
         width: 1,
         time: 5000,
         srwd: false,
@@ -24,6 +25,7 @@ const ROWS: [Row; 4] = [
     Row {
         cells: 16384,
         page: 64,
+        identification: 64,
         width: 2,
         time: 5000,
         srwd: true,
@@ -32,6 +34,7 @@ const ROWS: [Row; 4] = [
     Row {
         cells: 131072,
         page: 256,
+        identification: 256,
         width: 3,
         time: 4000,
         srwd: true,
@@ -40,10 +43,38 @@ const ROWS: [Row; 4] = [
     Row {
         cells: 262144,
         page: 256,
+        identification: 256,
         width: 3,
         time: 5000,
         srwd: true,
         coded: true,
+    },
+    Row {
+        cells: 128,
+        page: 16,
+        identification: 0,
+        width: 1,
+        time: 5000,
+        srwd: false,
+        coded: false,
+    },
+    Row {
+        cells: 256,
+        page: 16,
+        identification: 0,
+        width: 1,
+        time: 5000,
+        srwd: false,
+        coded: false,
+    },
+    Row {
+        cells: 16384,
+        page: 64,
+        identification: 0,
+        width: 2,
+        time: 5000,
+        srwd: true,
+        coded: false,
     },
 ];
 
@@ -51,7 +82,7 @@ const ROWS: [Row; 4] = [
 pub fn is_device(device: u8) -> bool
     ensures { λ r. ⌜ r ≡ isDevice device ⌝ }
 {
-    (1 <= device) & (device <= 4)
+    (1 <= device) & (device <= 7)
 }
 
 // The row of a device; of a number that is no device's, the first.
@@ -63,23 +94,23 @@ pub fn row_of(device: u8) -> Row
         return ROWS[0];
     }
     let at = n - 1;
-    if at < 4 { ROWS[at] } else { ROWS[0] }
+    if at < 7 { ROWS[at] } else { ROWS[0] }
 }
 
-// A code as it is looked up: without bit 3 where that is A8.
+// A code as it is looked up: without bit 3 where the address is one byte.
 pub fn plain(row: Row, code: u8) -> u8
     ensures { λ r. ⌜ r ≡ (if single row then code - number (bit code 3) * 8 else code) ⌝ }
 {
     if row.width == 1 {
-        bits::without_a8(code)
+        bits::without_bit_3(code)
     } else {
         code
     }
 }
 
-// The instruction of a code.
-pub fn decode(row: Row, code: u8) -> Instruction
-    ensures { λ r. ⌜ r ≡ decode row code ⌝ }
+// What a code names, whether or not the device has an identification page.
+pub fn name_of(row: Row, code: u8) -> Instruction
+    ensures { λ r. ⌜ r ≡ named row code ⌝ }
 {
     if code == 0x83 {
         return Instruction::Rdid;
@@ -104,18 +135,20 @@ fn row(
     taken: bool,
     addressed: bool,
     paged: bool,
+    identifies: bool,
     lock: Instruction,
     sends: Source,
     sets: bool,
     resets: bool,
     starts: Kind,
 ) -> Facts
-    ensures { λ r. ⌜ r ≡ factsOf taken addressed paged lock sends sets resets starts ⌝ }
+    ensures { λ r. ⌜ r ≡ factsOf taken addressed paged identifies lock sends sets resets starts ⌝ }
 {
     Facts {
         taken: taken,
         addressed: addressed,
         paged: paged,
+        identifies: identifies,
         lock: lock,
         sends: sends,
         sets: sets,
@@ -124,13 +157,14 @@ fn row(
     }
 }
 
-// The instruction table. Columns: taken in a cycle too; an address follows; only its place in the page counts; what the lock bit
-// makes of it; what it sends; sets WEL; resets WEL; the cycle it starts.
+// The instruction table. Columns: taken in a cycle too; an address follows; only its place in the page counts; it is of the
+// identification page; what the lock bit makes of it; what it sends; sets WEL; resets WEL; the cycle it starts.
 pub fn facts(i: Instruction) -> Facts
     ensures { λ r. ⌜ r ≡ facts i ⌝ }
 {
     match i {
         Instruction::Wren => row(
+            false,
             false,
             false,
             false,
@@ -144,6 +178,7 @@ pub fn facts(i: Instruction) -> Facts
             true,
             false,
             false,
+            false,
             Instruction::Wrdi,
             Source::Silent,
             false,
@@ -154,6 +189,7 @@ pub fn facts(i: Instruction) -> Facts
             true,
             false,
             false,
+            false,
             Instruction::Rdsr,
             Source::Status,
             false,
@@ -161,6 +197,7 @@ pub fn facts(i: Instruction) -> Facts
             Kind::None,
         ),
         Instruction::Wrsr => row(
+            false,
             false,
             false,
             false,
@@ -174,6 +211,7 @@ pub fn facts(i: Instruction) -> Facts
             false,
             true,
             false,
+            false,
             Instruction::Read,
             Source::Cells,
             false,
@@ -184,6 +222,7 @@ pub fn facts(i: Instruction) -> Facts
             false,
             true,
             false,
+            false,
             Instruction::Write,
             Source::Silent,
             false,
@@ -192,6 +231,7 @@ pub fn facts(i: Instruction) -> Facts
         ),
         Instruction::Rdid => row(
             false,
+            true,
             true,
             true,
             Instruction::Rdls,
@@ -204,6 +244,7 @@ pub fn facts(i: Instruction) -> Facts
             false,
             true,
             false,
+            true,
             Instruction::Rdls,
             Source::Lock,
             false,
@@ -212,6 +253,7 @@ pub fn facts(i: Instruction) -> Facts
         ),
         Instruction::Wrid => row(
             false,
+            true,
             true,
             true,
             Instruction::Lid,
@@ -224,6 +266,7 @@ pub fn facts(i: Instruction) -> Facts
             false,
             true,
             false,
+            true,
             Instruction::Lid,
             Source::Silent,
             false,
@@ -234,6 +277,7 @@ pub fn facts(i: Instruction) -> Facts
             false,
             false,
             false,
+            false,
             Instruction::Unknown,
             Source::Silent,
             false,
@@ -241,6 +285,32 @@ pub fn facts(i: Instruction) -> Facts
             Kind::None,
         ),
     }
+}
+
+// Whether the device has an identification page.
+pub fn has_identification(row: Row) -> bool
+    ensures { λ r. ⌜ r ≡ hasIdentification row ⌝ }
+{
+    row.identification != 0
+}
+
+// Whether bit 3 of READ's and WRITE's code is A8: one address byte cannot name every cell.
+pub fn has_a8(row: Row) -> bool
+    ensures { λ r. ⌜ r ≡ hasA8 row ⌝ }
+{
+    (row.width == 1) & (256 < row.cells)
+}
+
+// The instruction of a code. Without an identification page its two codes are unknown.
+pub fn decode(row: Row, code: u8) -> Instruction
+    ensures { λ r. ⌜ r ≡ decode row code ⌝ }
+{
+    let i = name_of(row, code);
+    let f = facts(i);
+    if f.identifies & !has_identification(row) {
+        return Instruction::Unknown;
+    }
+    i
 }
 
 fn change(runs: bool, cells: bool, identification: bool, status: bool, lock: bool) -> Change

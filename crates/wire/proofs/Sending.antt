@@ -18,11 +18,11 @@ use Rattle.rules.specs.Instruction.{commandBytes}
 use Rattle.tables.proofs.Looks.{arm}
 use Rattle.rules.specs.Send.{byteOf, going, sourceOf, isSending, shownAddress, outputOf, outputAfter, fallen}
 
-pub page-inside : (row : Row) (a : ℕ) → a < row .page → record { sends = true; after = a + 1; past = false } ≡ going row Source.Identification a
-page-inside row a h = rw (min-eq-left {n = a + 1} {m = row .page} (omega arith), lt-leb (row .page) a h)
+pub page-inside : (row : Row) (a : ℕ) → a < row .identification → record { sends = true; after = a + 1; past = false } ≡ going row Source.Identification a
+page-inside row a h = rw (min-eq-left {n = a + 1} {m = row .identification} (omega arith), lt-leb (row .identification) a h)
 
-pub page-past : (row : Row) (a : ℕ) → row .page ≤ a → record { sends = true; after = row .page; past = true } ≡ going row Source.Identification a
-page-past row a h = rw (min-eq-right {n = row .page} {m = a + 1} (omega arith), le-leb (row .page) a h)
+pub page-past : (row : Row) (a : ℕ) → row .identification ≤ a → record { sends = true; after = row .identification; past = true } ≡ going row Source.Identification a
+page-past row a h = rw (min-eq-right {n = row .identification} {m = a + 1} (omega arith), le-leb (row .identification) a h)
 
 module _ (row : Row) (s : State) where
   pub shown-next : {n : ℕ} {t : Source} {g : Going} → n ≡ commandBytes row (s .command .instruction) → (eqb (s .input .bits) 0 && not (eqb (s .input .bytes) n)) ≡ true
@@ -74,5 +74,5 @@ byte-by s cells identification a e f = arm (λ (x : Source). byteOf s cells iden
 pub going-by : (row : Row) (a : ℕ) {t u : Source} {g : Going} → t ≡ u → g ≡ going row u a → g ≡ going row t a
 going-by row a e f = arm (λ (x : Source). going row x a) e f
 
-pub inside-page : (row : Row) (a : ℕ) {t : Source} → t ≡ Source.Identification → going row t a .past ≡ false → a < row .page
-inside-page row a e h = leb-false (row .page) a (ap (λ (x : Source). going row x a .past) (sym e) ∙ h)
+pub inside-page : (row : Row) (a : ℕ) {t : Source} → t ≡ Source.Identification → going row t a .past ≡ false → a < row .identification
+inside-page row a e h = leb-false (row .identification) a (ap (λ (x : Source). going row x a .past) (sym e) ∙ h)

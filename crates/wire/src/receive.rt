@@ -79,7 +79,7 @@ pub fn start_address(row: Row, code: u8, i: Instruction) -> usize
     ensures { λ r. ⌜ r ≡ startAddress row code i ⌝ }
 {
     let f = tables::facts(i);
-    let high = (row.width == 1) & f.addressed & !f.paged & bits::bit_of(code, 3);
+    let high = tables::has_a8(row) & f.addressed & !f.paged & bits::bit_of(code, 3);
     high as usize
 }
 

@@ -16,12 +16,12 @@ use rules::Row;
 use rules::Source;
 use rules::State;
 
-// How RDID goes on: past the page's end the address stays.
+// How RDID goes on: past the identification page's end the address stays.
 pub fn page_going(row: Row, address: usize) -> Going
     ensures { λ r. ⌜ r ≡ going row Source.Identification address ⌝ }
 {
-    let page = row.page;
-    if address < page {
+    let length = row.identification;
+    if address < length {
         let after = address + 1;
         Going {
             sends: true,
@@ -31,7 +31,7 @@ pub fn page_going(row: Row, address: usize) -> Going
     } else {
         Going {
             sends: true,
-            after: page,
+            after: length,
             past: true,
         }
     }
@@ -117,7 +117,7 @@ pub fn byte_of(
     address: usize,
 ) -> u8
     requires { ⌜
-        (storable row (s .registers .status) ≡ s .registers .status) × (address < length (now cells)) × (length (now identification) ≡ row .page)
+        (storable row (s .registers .status) ≡ s .registers .status) × (address < length (now cells)) × (length (now identification) ≡ row .identification)
         × (going row source address .past ≡ false) ⌝ }
     ensures { λ r. ⌜ r ≡ byteOf s (now (cells .entry)) (now (identification .entry)) source address ⌝ }
 {
@@ -158,7 +158,7 @@ pub fn output_after(
 ) -> Output
     requires { ⌜
         (Widths row) × (s .input .bits ≤ 7) × (storable row (s .registers .status) ≡ s .registers .status) × (address < row .cells)
-        × (length (now cells) ≡ row .cells) × (length (now identification) ≡ row .page) ⌝ }
+        × (length (now cells) ≡ row .cells) × (length (now identification) ≡ row .identification) ⌝ }
     ensures { λ r. ⌜ r ≡ outputAfter row s (now (cells .entry)) (now (identification .entry)) address ⌝ }
 {
     let source = source_of(s);
@@ -181,7 +181,7 @@ pub fn output_after(
 pub fn fall(row: Row, s: State, decoded: bool, cells: &[u8], identification: &[u8]) -> State
     requires { ⌜
         (Widths row) × (s .input .bits ≤ 7) × (s .place .address < row .cells) × (storable row (s .registers .status) ≡ s .registers .status)
-        × (length (now cells) ≡ row .cells) × (length (now identification) ≡ row .page) ⌝ }
+        × (length (now cells) ≡ row .cells) × (length (now identification) ≡ row .identification) ⌝ }
     ensures { λ r. ⌜ r ≡ fallen row decoded s (now (cells .entry)) (now (identification .entry)) ⌝ }
 {
     if decoded & is_sending(row, s) {

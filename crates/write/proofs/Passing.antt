@@ -10,9 +10,11 @@ use Rattle.rules.specs.declared.Kind.{Kind}
 use Rattle.rules.specs.declared.Change.{Change}
 use Rattle.rules.specs.declared.State.{State}
 use Rattle.rules.specs.World.{if_then_else_, withStored, worldOf}
+use Rattle.rules.specs.Device.{Widths}
 use Rattle.rules.specs.Instruction.{changes}
 use Rattle.rules.specs.Cycle.{written, ends, waitedState, waited}
-use Rattle.rules.proofs.Choice.{and-right}
+use Rattle.rules.specs.Sound.{SoundCycle}
+use Rattle.rules.proofs.Choice.{and-right, or-left}
 
 module _ (s : State) (n : ℕ) {c : Change} (ec : c ≡ changes (s .cycle .kind)) where
   pub ends-at : (b : Bool) → (c .runs && leb (s .place .left) n) ≡ b → ends n s ≡ b
@@ -40,6 +42,13 @@ one-list Kind.Lock e = refl
 and-none : (a b : Bool) → b ≡ false → (a && b) ≡ false
 and-none true b e = e
 and-none false b e = refl
+
+-- A cycle that writes the identification page has a whole one to write to.
+pub has-page : {row : Row} → Widths row → (k : Kind) {next start left : ℕ} → SoundCycle row k next start left → {c : Change} → c ≡ changes k
+    → (long : Bool) → (c .runs && long && c .identification) ≡ true → row .identification ≡ row .page
+has-page v k h {c} ec long e =
+    let of = ap (λ (x : Change). x .identification) (sym ec) ∙ and-right (c .runs && long) (c .identification) e in
+    v .whole (h .paged (or-left (changes k .identification) (changes k .lock) of))
 
 -- The lists after a wait, by what the cycle changes.
 module _ (row : Row) (s t : State) (n : ℕ) (cells identification latch : List ℕ) (c : Change) (ec : c ≡ changes (s .cycle .kind)) (et : t ≡ waitedState n s) where

@@ -70,7 +70,7 @@ pub fn wait(
     wait: u32,
 ) -> State
     requires { ⌜ (Widths row) × (SoundCycle row (s .cycle .kind) (s .cycle .next) (s .place .start) (s .place .left)) ⌝ }
-    requires { ⌜ (length (now cells) ≡ row .cells) × (length (now identification) ≡ row .page) × (length (now latch) ≡ row .page + row .page) ⌝ }
+    requires { ⌜ (length (now cells) ≡ row .cells) × (length (now identification) ≡ row .identification) × (length (now latch) ≡ row .page + row .page) ⌝ }
     ensures { λ r. ⌜
         worldOf r (now (cells .exit)) (now (identification .exit)) (now (latch .entry))
         ≡ waited row wait (worldOf s (now (cells .entry)) (now (identification .entry)) (now (latch .entry))) ⌝ }

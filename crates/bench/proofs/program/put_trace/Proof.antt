@@ -11,7 +11,7 @@ use Rattle.bench.proofs.program.put_trace.Statement.{statement}
 use Rattle.bench.proofs.program.put_trace.Tie as tie
 
 -- What the device needs of the room, and that its part of each buffer is so long, from where its row is known.
-least : (at : tie.After-row-of) → (at .row-of .result .cells ≤ 16_384) × (at .row-of .result .page ≤ 64)
+least : (at : tie.After-row-of) → (at .row-of .result .cells ≤ 16_384) × (at .row-of .result .page ≤ 64) × (at .row-of .result .identification ≤ 64)
 least at =
     let start = at .before .before .before .before .before .before .before in
     room (start .args .device) (at .row-of .ensures) (start .pre .0 .0) (start .pre .0 .1)
@@ -19,12 +19,12 @@ least at =
 long : (at : tie.After-row-of)
     → let row = at .row-of .result in
     let given = at .before .before .before .before .before .before .before .args in
-    (length (take (row .cells) (given .cells .now)) ≡ row .cells) × (length (take (row .page) (given .identification .now)) ≡ row .page)
+    (length (take (row .cells) (given .cells .now)) ≡ row .cells) × (length (take (row .identification) (given .identification .now)) ≡ row .identification)
     × (length (take (row .page + row .page) (given .latch .now)) ≡ row .page + row .page)
 long at =
     let lent = at .before .before .before .before .before .before .before .pre .1 .0 in (
       length-take-le _ _ (omega (arith, least at .0, lent .0)),
-      length-take-le _ _ (omega (arith, least at .1, lent .1)),
+      length-take-le _ _ (omega (arith, least at .2, lent .1)),
       length-take-le _ _ (omega (arith, least at .1, lent .2)),
     )
 
@@ -45,7 +45,7 @@ slice-aggregate-bench-run c = sym (long (c .before) .0)
 slice-relend-prefix-bench-run-2 : tie.Need-slice-relend-prefix-bench-run-2
 slice-relend-prefix-bench-run-2 c =
     let start = c .before .before .before .before .before .before .before .before in
-    omega (arith, least (c .before) .1, start .pre .1 .0 .1)
+    omega (arith, least (c .before) .2, start .pre .1 .0 .1)
 
 slice-aggregate-bench-run-2 : tie.Need-slice-aggregate-bench-run-2
 slice-aggregate-bench-run-2 c = sym (long (c .before .before) .1)

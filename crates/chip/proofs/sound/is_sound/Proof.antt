@@ -16,16 +16,19 @@ resting-sound-requires c κs = search needs
 selected-sound-requires : tie.Need-selected-sound-requires
 selected-sound-requires c κs = search needs
 
+page-sound-requires : tie.Need-page-sound-requires
+page-sound-requires c κs = search needs
+
 latch-is-marked-requires : tie.Need-latch-is-marked-requires
 latch-is-marked-requires c κs = search needs
 
 returns : tie.Need-returns
 returns c =
-    let at-resting-sound = c .before .before in
-    let at-cycle-sound = at-resting-sound .before in
-    let given = at-cycle-sound .before .before .before .args in
-    all-sound (given .row) (given .s) _ (at-cycle-sound .before .received-sound .ensures) (at-cycle-sound .cycle-sound .ensures) (at-resting-sound .resting-sound .ensures)
-    (c .before .selected-sound .ensures) (c .latch-is-marked .ensures)
+    let at-cycle-sound = c .before .before .before .before in
+    let at-received-sound = at-cycle-sound .before in
+    let start = at-received-sound .before .before in
+    all-sound (start .args .row) (start .args .s) _ (at-received-sound .received-sound .ensures) (at-cycle-sound .cycle-sound .ensures)
+    (c .before .before .before .resting-sound .ensures) (c .before .before .selected-sound .ensures) (c .before .page-sound .ensures) (c .latch-is-marked .ensures)
 
 pub is-sound-spec : {M : Type 1} → statement M
 is-sound-spec =
@@ -35,5 +38,6 @@ is-sound-spec =
     cycle-sound-requires
     resting-sound-requires
     selected-sound-requires
+    page-sound-requires
     latch-is-marked-requires
     returns)

@@ -1,7 +1,7 @@
 -- `lent::preparing::prepare` meets its contract.
 use mathlib.Core.Path.{sym, _∙_}
 use Rattle.rules.proofs.Widths.{row-widths}
-use Rattle.lent.proofs.Lending.{prepare-refused, prepare-done, lent-fine, page-at}
+use Rattle.lent.proofs.Lending.{prepare-refused, prepare-done, lent-fine, identification-at}
 use borrow.Author.Needs.{needs}
 use Rattle.lent.proofs.preparing.prepare.Statement.{statement}
 use Rattle.lent.proofs.preparing.prepare.Tie as tie
@@ -43,7 +43,7 @@ prepare-identification-requires c κs =
     let good = c .before .before .before .before .before .before .if1 .left in
     let row = c .before .before .before .before .before .row-of in
     let whole = lent-fine (given .device) (fresh .result) (given .cells .now) (given .identification .now) (given .latch .now) (sym (judged .ensures) ∙ good) in
-    (row-widths (given .device) (row .result) (row .ensures), whole .identification ∙ page-at (given .device) (row .result) (row .ensures))
+    (row-widths (given .device) (row .result) (row .ensures), whole .identification ∙ identification-at (given .device) (row .result) (row .ensures))
 
 fill-requires-2 : tie.Need-fill-requires-2
 fill-requires-2 c κs = search needs

@@ -2,7 +2,7 @@
 use native.Mathlib.Omega.{arith}
 use mathlib.Core.Path.{sym}
 use lib.Seq.{length-take-le}
-use Rattle.m95.proofs.Calling.{a-device, lent-room}
+use Rattle.m95.proofs.Calling.{lent-room}
 use Rattle.rules.proofs.Widths.{room}
 use borrow.Author.Needs.{needs}
 use Rattle.playthrough.proofs.run.play_device.Statement.{statement}
@@ -30,13 +30,13 @@ slice-aggregate-play-lent c =
 array-borrow-prefix-identification : tie.Need-array-borrow-prefix-identification
 array-borrow-prefix-identification c =
     let start = c .before .before .before .before .before .before in
-    omega (arith, room (start .args .device) (c .before .row-of .ensures) .1)
+    omega (arith, room (start .args .device) (c .before .row-of .ensures) .2)
 
 slice-aggregate-play-lent-2 : tie.Need-slice-aggregate-play-lent-2
 slice-aggregate-play-lent-2 c =
     let row = c .before .before .row-of in
     let start = c .before .before .before .before .before .before .before in
-    sym (length-take-le _ _ (omega (arith, room (start .args .device) (row .ensures) .1)))
+    sym (length-take-le _ _ (omega (arith, room (start .args .device) (row .ensures) .2)))
 
 array-borrow-prefix-latch : tie.Need-array-borrow-prefix-latch
 array-borrow-prefix-latch c =
@@ -54,8 +54,8 @@ play-lent-requires c κs =
     let start = c .before .before .before .before .before .before .before .before in
     let row = c .before .before .before .row-of in
     let large = room (start .args .device) (row .ensures) in
-    lent-room (start .args .device) (row .result) (row .ensures) (a-device (start .args .device) (start .pre .0) (start .pre .1)) _ _ _
-    (length-take-le _ _ (omega (arith, large .0))) (length-take-le _ _ (omega (arith, large .1))) (length-take-le _ _ (omega (arith, large .1)))
+    lent-room (start .args .device) (row .result) (row .ensures) (start .pre) _ _ _
+    (length-take-le _ _ (omega (arith, large .0))) (length-take-le _ _ (omega (arith, large .2))) (length-take-le _ _ (omega (arith, large .1)))
 
 returns : tie.Need-returns
 returns c = search needs

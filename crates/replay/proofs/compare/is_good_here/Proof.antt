@@ -20,12 +20,12 @@ slice-aggregate-is-good : tie.Need-slice-aggregate-is-good
 slice-aggregate-is-good c = sym (length-take-le _ _ (omega (arith, room (c .before .before .before .args .h .device) (c .before .row-of .ensures) .0)))
 
 array-borrow-prefix-identification : tie.Need-array-borrow-prefix-identification
-array-borrow-prefix-identification c = omega (arith, room (c .before .before .before .args .h .device) (c .before .row-of .ensures) .1)
+array-borrow-prefix-identification c = omega (arith, room (c .before .before .before .args .h .device) (c .before .row-of .ensures) .2)
 
 slice-aggregate-is-good-2 : tie.Need-slice-aggregate-is-good-2
 slice-aggregate-is-good-2 c =
     let start = c .before .before .before .before in
-    sym (length-take-le _ _ (omega (arith, room (start .args .h .device) (c .before .before .row-of .ensures) .1)))
+    sym (length-take-le _ _ (omega (arith, room (start .args .h .device) (c .before .before .row-of .ensures) .2)))
 
 array-borrow-prefix-latch : tie.Need-array-borrow-prefix-latch
 array-borrow-prefix-latch c =
@@ -51,12 +51,12 @@ array-borrow-prefix-factory : tie.Need-array-borrow-prefix-factory
 array-borrow-prefix-factory c =
     let at-row-of = c .before .before .before .before in
     let start = c .before .before .before .before .before .before in
-    omega (arith, room (start .args .h .device) (at-row-of .row-of .ensures) .1)
+    omega (arith, room (start .args .h .device) (at-row-of .row-of .ensures) .2)
 
 slice-aggregate-is-good-5 : tie.Need-slice-aggregate-is-good-5
 slice-aggregate-is-good-5 c =
     let at-row-of = c .before .before .before .before .before in
-    sym (length-take-le _ _ (omega (arith, room (at-row-of .before .before .args .h .device) (at-row-of .row-of .ensures) .1)))
+    sym (length-take-le _ _ (omega (arith, room (at-row-of .before .before .args .h .device) (at-row-of .row-of .ensures) .2)))
 
 array-borrow-prefix-answers : tie.Need-array-borrow-prefix-answers
 array-borrow-prefix-answers c = search needs

@@ -6,6 +6,9 @@ use Rattle.wire.proofs.receive.start_address.Tie as tie
 facts-requires : tie.Need-facts-requires
 facts-requires c κs = search needs
 
+has-a8-requires : tie.Need-has-a8-requires
+has-a8-requires c κs = search needs
+
 bit-of-requires : tie.Need-bit-of-requires
 bit-of-requires c κs = search needs
 
@@ -14,8 +17,9 @@ cast-result c = search needs
 
 returns : tie.Need-returns
 returns c =
-    let facts = c .before .before .before .before .facts in
-    rw (c .bit-of .ensures, facts .ensures)
+    let at-has-a8 = c .before .before .before in
+    rw (c .bit-of .ensures, at-has-a8 .has-a8 .ensures, at-has-a8 .before .facts .ensures)
 
 pub start-address-spec : {M : Type 1} → statement M
-start-address-spec = tie.close (tie.spec facts-requires bit-of-requires cast-result returns)
+start-address-spec =
+    tie.close (tie.spec facts-requires has-a8-requires bit-of-requires cast-result returns)

@@ -1,7 +1,8 @@
 -- `write::cycle::wait` meets its contract.
 use native.Mathlib.Omega.{arith}
+use lib.Dec.{leb}
 use Rattle.rules.proofs.Widths.{page-room}
-use Rattle.write.proofs.Passing.{wait-cells, wait-page, wait-none}
+use Rattle.write.proofs.Passing.{has-page, wait-cells, wait-page, wait-none}
 use borrow.Author.Needs.{needs}
 use Rattle.write.proofs.cycle.wait.Statement.{statement}
 use Rattle.write.proofs.cycle.wait.Tie as tie
@@ -32,8 +33,11 @@ returns c =
 
 write-marked-requires-2 : tie.Need-write-marked-requires-2
 write-marked-requires-2 c κs =
-    let start = c .before .before .before .before .before .before .before .before .before .before .before .before .before in
-    (start .pre .1 .2, omega (arith, start .pre .1 .1))
+    let at-changes = c .before .before .before .before .before .before .before .before in
+    let start = at-changes .before .before .before .before .before in
+    let s = start .args .s in
+    let whole = has-page (start .pre .0 .0) (s .cycle .kind) (start .pre .0 .1) (at-changes .changes .ensures) (leb (s .place .left) (start .args .wait)) (c .before .if2 .taken) in
+    (start .pre .1 .2, omega (arith, start .pre .1 .1, whole))
 
 same-length-2 : tie.Need-same-length-2
 same-length-2 c = search needs
