@@ -1,14 +1,11 @@
-//! The calls of the library (document 01, "Traces" and "Numbers given back"; document 02, W-201). A refused call leaves
-//! what the table of numbers says.
+//! The calls of the library (document 01, "Traces" and "Numbers given back"; document 02, W-201 and W-202). A refused
+//! call leaves what the table of numbers says.
 
 use crate::device::{device, Device};
 use crate::number::Number;
 use crate::rules::Chip;
 use crate::state::{is_sound, Output, State};
 use crate::trace::{read_record, Event};
-
-/// What the identification page of device 4 starts with when prepared.
-pub(crate) const IDENTIFICATION_CODE: [u8; 3] = [0x20, 0x00, 0x12];
 
 /// How running a trace ended.
 #[derive(Clone, Copy, Debug, PartialEq, Eq)]
@@ -45,21 +42,19 @@ pub fn prepare(
     cells.fill(0xFF);
     identification.fill(0xFF);
     latch.fill(0);
-    if row.number == 4 {
-        identification[..IDENTIFICATION_CODE.len()].copy_from_slice(&IDENTIFICATION_CODE);
-    }
+    identification[..row.identification_code.len()].copy_from_slice(row.identification_code);
     (Number::Done, State::prepared())
 }
 
 /// The state after power of a device that keeps these status bits and this lock: a prepared one but for them. It gives
-/// 1, then 5 for bits that the device has not and for a lock other than 0 and 1; refused, the state is that of a
-/// prepared device.
+/// 1, then 5 for bits that the device has not and for a lock other than 0 and 1, or other than 0 where there is no
+/// identification page to lock; refused, the state is that of a prepared device.
 pub fn load(number: u8, status: u8, lock: u8) -> (Number, State) {
     let prepared = State::prepared();
     let Some(row) = device(number) else {
         return (Number::Device, prepared);
     };
-    if !row.has_bits(status) || lock > 1 {
+    if !row.has_bits(status) || lock > u8::from(row.has_identification()) {
         return (Number::State, prepared);
     }
     let loaded = State {
@@ -164,9 +159,10 @@ pub enum Region {
     Identification,
 }
 
-/// Shows a page of one region, lent and not copied: the page of cells that holds `address`, or the identification
-/// page, which needs no address and looks at none. Both slices are judged whichever is shown, so a caller that mixes
-/// them up learns of it from either region. A refused view shows an empty part.
+/// Shows a page of one region, lent and not copied: the page of cells that holds `address`, or the identification page,
+/// which needs no address and looks at none. A device without that page has one of no bytes to show. Both slices are
+/// judged whichever is shown, so a caller that mixes them up learns of it from either region. A refused view shows an
+/// empty part.
 pub fn view<'a>(
     number: u8,
     region: Region,
@@ -198,7 +194,7 @@ fn judge_stored(
     if cells.len() != row.cells {
         return Err(Number::Cells);
     }
-    if identification.len() != row.page {
+    if identification.len() != row.identification {
         return Err(Number::Identification);
     }
     Ok(row)

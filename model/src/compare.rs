@@ -8,6 +8,7 @@ mod external;
 use std::io;
 use std::path::PathBuf;
 
+use crate::bench::BENCH_DEVICES;
 use crate::device::{Device, DEVICES};
 use crate::generate::{
     bench_input, odd_bench_input, trace_with_tail, Profile, Random, ODD_BENCH_INPUTS, TAILS,
@@ -15,11 +16,12 @@ use crate::generate::{
 use crate::{bench, play, Contents};
 use external::{Files, Program};
 
-/// Records of one trace for `play`, and of one that is refused at its end.
-const PLAY_RECORDS: usize = 42_000;
+/// Records of one trace for `play`, and of one that is refused at its end. All profiles on all devices make a round of
+/// a little less than the 2,000,000 records that the program does if not told otherwise.
+const PLAY_RECORDS: usize = 23_000;
 const MALFORMED_RECORDS: usize = 4_000;
-/// Refused traces for each device in a round. Those of `play` take every tail once.
-const MALFORMED_PLAYS: usize = 13;
+/// Refused traces for each device in a round. Those of `play` take every tail at least once.
+const MALFORMED_PLAYS: usize = TAILS.div_ceil(DEVICES.len());
 const MALFORMED_BENCHES: usize = 8;
 /// Runs of a device on one chip before it gets another one.
 const CHAIN: usize = 3;
@@ -227,7 +229,7 @@ impl Comparison {
     }
 
     fn bench_run(&mut self, profile: Profile, device: &'static Device) -> io::Result<()> {
-        if device.number > 2 {
+        if !BENCH_DEVICES.contains(&device.number) {
             return Ok(());
         }
         let run = self.run(profile, device, "bench");
@@ -346,7 +348,7 @@ fn chip_difference(device: &Device, expected: &[u8], given: &[u8]) -> Option<Str
         ));
     }
     let index = (0..expected.len()).find(|&index| expected[index] != given[index])?;
-    let end = device.cells + device.page;
+    let end = device.cells + device.identification;
     let part = match index {
         _ if index < device.cells => format!("cell {index:X}h"),
         _ if index < end => format!("identification byte {:X}h", index - device.cells),

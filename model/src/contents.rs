@@ -25,7 +25,7 @@ impl Contents {
     /// The contents of a prepared chip.
     pub fn prepared(device: &Device) -> Contents {
         let mut cells = vec![0; device.cells];
-        let mut identification = vec![0; device.page];
+        let mut identification = vec![0; device.identification];
         let mut latch = vec![0; 2 * device.page];
         let (_, state) = prepare(device.number, &mut cells, &mut identification, &mut latch);
         let (status, lock) = stored(&state);
@@ -44,7 +44,7 @@ impl Contents {
         contents
     }
 
-    /// Any contents that the device can have, but the lock as asked for.
+    /// Any contents that the device can have, but the lock as asked for where there is something to lock.
     pub fn random(device: &Device, random: &mut Random, locked: bool) -> Contents {
         let mut contents = Contents::prepared(device);
         for byte in contents
@@ -55,14 +55,14 @@ impl Contents {
             *byte = random.byte();
         }
         contents.status = random.byte() & device.status_bits();
-        contents.locked = locked;
+        contents.locked = locked && device.has_identification();
         contents
     }
 
     /// Reads the long form (cells, identification page, status bits, lock) or a raw image of the cells.
     pub fn from_bytes(device: &Device, bytes: &[u8]) -> Result<Contents, String> {
         let mut contents = Contents::prepared(device);
-        let long = device.cells + device.page + 2;
+        let long = device.cells + device.identification + 2;
         if bytes.len() != device.cells && bytes.len() != long {
             return Err(format!(
                 "chip has {} bytes, device {} needs {} or {}",
@@ -77,7 +77,7 @@ impl Contents {
         if rest.is_empty() {
             return Ok(contents);
         }
-        let (identification, bits) = rest.split_at(device.page);
+        let (identification, bits) = rest.split_at(device.identification);
         contents.identification.copy_from_slice(identification);
         let (status, lock) = (bits[0], bits[1]);
         judge_kept(device, status, lock)?;
@@ -110,7 +110,11 @@ fn judge_kept(device: &Device, status: u8, lock: u8) -> Result<(), String> {
         ));
     }
     if load(number, status, lock).0 != Number::Done {
-        return Err(format!("lock is {lock}, not 0 or 1"));
+        let locks = match device.has_identification() {
+            true => "0 or 1",
+            false => "0",
+        };
+        return Err(format!("lock is {lock}, not {locks}"));
     }
     Ok(())
 }

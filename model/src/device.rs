@@ -1,28 +1,35 @@
-//! The one table of devices (document 01, "What the bench models"). Every rule that differs between devices reads
-//! its number here.
+//! The one table of devices (document 01, "What the bench models"; document 02, W-202). Every rule that differs between
+//! devices reads a column of it; none asks which device it is.
 
 /// The block protection bits BP1 and BP0 of the status register.
 pub const BP: u8 = 0b0000_1100;
 /// The status register write disable bit.
 pub const SRWD: u8 = 0b1000_0000;
 
+/// What the identification page of the M95M02 starts with when prepared.
+pub(crate) const IDENTIFICATION_CODE: [u8; 3] = [0x20, 0x00, 0x12];
+
 /// One row of the table.
-#[derive(Debug, PartialEq, Eq)]
+#[derive(Clone, Debug, PartialEq, Eq)]
 pub struct Device {
     pub number: u8,
     pub name: &'static str,
-    /// Bytes of the array; a power of two on all four devices.
+    /// Bytes of the array; a power of two on all devices.
     pub cells: usize,
-    /// Bytes of a page; the identification page is one page long.
+    /// Bytes of a page of cells, and of each half of the write latch.
     pub page: usize,
     pub address_bytes: u8,
     /// Microseconds that a cycle takes.
     pub write_time: u32,
     pub has_srwd: bool,
+    /// Bytes of the identification page: a page, or 0 where there is none.
+    pub identification: usize,
+    /// What the identification page starts with when prepared; FFh follows.
+    pub identification_code: &'static [u8],
 }
 
 /// The table itself, in the order of the device numbers.
-pub const DEVICES: [Device; 4] = [
+pub const DEVICES: [Device; 7] = [
     Device {
         number: 1,
         name: "M95040-DF",
@@ -31,6 +38,8 @@ pub const DEVICES: [Device; 4] = [
         address_bytes: 1,
         write_time: 5000,
         has_srwd: false,
+        identification: 16,
+        identification_code: &[],
     },
     Device {
         number: 2,
@@ -40,6 +49,8 @@ pub const DEVICES: [Device; 4] = [
         address_bytes: 2,
         write_time: 5000,
         has_srwd: true,
+        identification: 64,
+        identification_code: &[],
     },
     Device {
         number: 3,
@@ -49,6 +60,8 @@ pub const DEVICES: [Device; 4] = [
         address_bytes: 3,
         write_time: 4000,
         has_srwd: true,
+        identification: 256,
+        identification_code: &[],
     },
     Device {
         number: 4,
@@ -58,6 +71,41 @@ pub const DEVICES: [Device; 4] = [
         address_bytes: 3,
         write_time: 5000,
         has_srwd: true,
+        identification: 256,
+        identification_code: &IDENTIFICATION_CODE,
+    },
+    Device {
+        number: 5,
+        name: "M95010",
+        cells: 128,
+        page: 16,
+        address_bytes: 1,
+        write_time: 5000,
+        has_srwd: false,
+        identification: 0,
+        identification_code: &[],
+    },
+    Device {
+        number: 6,
+        name: "M95020",
+        cells: 256,
+        page: 16,
+        address_bytes: 1,
+        write_time: 5000,
+        has_srwd: false,
+        identification: 0,
+        identification_code: &[],
+    },
+    Device {
+        number: 7,
+        name: "M95128",
+        cells: 16_384,
+        page: 64,
+        address_bytes: 2,
+        write_time: 5000,
+        has_srwd: true,
+        identification: 0,
+        identification_code: &[],
     },
 ];
 
@@ -81,10 +129,26 @@ impl Device {
         status & !self.status_bits() == 0
     }
 
-    /// The address bit that makes an identification instruction a lock instruction ("Instructions", Address).
-    /// Device 1 has only eight address bits, so it uses another one.
+    /// Whether the device is of the sheet of the smallest ones, those with a single address byte: there W guards the
+    /// writes themselves, and bit 3 tells no two of the short codes apart (document 02, W-202).
+    pub fn has_one_address_byte(&self) -> bool {
+        self.address_bytes == 1
+    }
+
+    /// Whether the address bytes cannot name all the cells, so that the code has to bring the bit that is missing, A8.
+    pub fn code_brings_a8(&self) -> bool {
+        self.cells > 1 << (8 * self.address_bytes)
+    }
+
+    /// Whether there is an identification page, and with it the four instructions on it and a lock.
+    pub fn has_identification(&self) -> bool {
+        self.identification > 0
+    }
+
+    /// The address bit that makes an identification instruction a lock instruction ("Instructions", Address). A single
+    /// address byte does not reach up to the usual one.
     pub fn lock_bit(&self) -> usize {
-        if self.number == 1 {
+        if self.has_one_address_byte() {
             1 << 7
         } else {
             1 << 10

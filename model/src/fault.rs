@@ -1,5 +1,5 @@
 //! Named ways to be wrong. `mistakes` makes them; `sharpness` uses them to show that the generated traces, or else the
-//! inputs of the bench program or the chosen views, would notice each one.
+//! inputs of the bench program or the chosen views, states and loads, would notice each one.
 
 /// Declares the enum, the list of all faults and their meanings from one table.
 macro_rules! faults {
@@ -12,17 +12,36 @@ macro_rules! faults {
         }
 
         impl Fault {
-            /// Every mistake, in the order of document 01's headings.
+            /// Every mistake, in the order of document 01's headings; those that a request brought are in its order.
             pub const ALL: &'static [Fault] = &[$(Fault::$name,)*];
+
+            /// Whether the mistake is that of a device on a trace.
+            pub fn is_of_trace(self) -> bool {
+                !(self.is_of_bench() || self.is_of_view() || self.is_of_state() || self.is_of_load())
+            }
 
             /// Whether the mistake is the bench program's and not the library's.
             pub fn is_of_bench(self) -> bool {
-                format!("{self:?}").starts_with("Bench")
+                self.starts_with("Bench")
             }
 
             /// Whether the mistake is that of a view, which no trace asks for.
             pub fn is_of_view(self) -> bool {
-                format!("{self:?}").starts_with("View")
+                self.starts_with("View")
+            }
+
+            /// Whether the mistake is that of calling a state sound, which all states that a trace reaches are.
+            pub fn is_of_state(self) -> bool {
+                self.starts_with("State")
+            }
+
+            /// Whether the mistake is that of `load`, which comes before a trace.
+            pub fn is_of_load(self) -> bool {
+                self.starts_with("Load")
+            }
+
+            fn starts_with(self, word: &str) -> bool {
+                format!("{self:?}").starts_with(word)
             }
 
             /// What the mistaken model does.
@@ -214,6 +233,52 @@ faults! {
     StoredBitsWithWel = "the stored bits are given out with WEL and WIP",
     StoredBitsAreNew = "the new bits of a running status cycle are given out as stored",
     StoredLockIsNew = "the lock of a running lock cycle is given out as stored",
+    // Smaller boards: rows of the table, and what depends on their cells and pages.
+    SmallerWriteTimeIs4000 = "devices 5 to 7 take 4000 microseconds",
+    Device5And6PageIs32 = "a page write rolls round within 32 bytes on devices 5 and 6",
+    Device5AddressBit7Counts = "an address with bit 7 set is not taken on device 5",
+    Device6AddressBit7Ignored = "bit 7 of the address is ignored on device 6",
+    Device6ReadStopsAtLastCell = "READ sends Z past FFh on device 6",
+    Device5And6ProtectionAsDevice1 = "the protected part begins on devices 5 and 6 where device 1's does",
+    Device7HeldWriteJudged = "a WRITE deselected while held is judged on device 7",
+    // Smaller boards: bit 3 of the code.
+    Device5And6ShortBit3Counts = "0Eh, 0Ch, 0Dh and 09h are unknown codes on devices 5 and 6",
+    Device5And6ArrayBit3Counts = "0Ah and 0Bh are unknown codes on devices 5 and 6",
+    Device5And6Address8IsTopBit = "0Ah and 0Bh mean the upper half of the array on devices 5 and 6",
+    Device7CodeBit3Ignored = "bit 3 of the code is ignored on device 7",
+    // Smaller boards: 83h and 82h.
+    Device7RdidSends = "83h sends FFh on device 7",
+    Device7RdlsSends = "83h with the lock bit set sends 00h on device 7",
+    Device5And6RdidSends = "83h sends FFh on devices 5 and 6",
+    Device5And6RdlsSends = "83h with the lock bit set sends 00h on devices 5 and 6",
+    SmallerRdidTakenInCycle = "83h sends FFh in a cycle on devices 5 to 7",
+    SmallerWridStartsCycle = "82h starts a cycle on devices 5 to 7",
+    SmallerWridDoneAtOnce = "82h clears WEL without a cycle on devices 5 to 7",
+    SmallerWridClearsMarks = "82h clears the marks on devices 5 to 7",
+    SmallerWridLatches = "82h puts its data bytes into the latch on devices 5 to 7",
+    SmallerWridTakenInCycle = "82h takes over the latch of a running cycle on devices 5 to 7",
+    SmallerLidLocks = "82h with the lock bit set locks on devices 5 to 7",
+    // Smaller boards: W and the status bits.
+    Device5And6WrsrIgnoresProtect = "W low does not stop WRSR on devices 5 and 6",
+    Device5And6WriteIgnoresProtect = "W low does not stop WRITE on devices 5 and 6",
+    Device5And6WrenStopped = "W low stops WREN on devices 5 and 6",
+    Device5And6ProtectClearsWel = "W low clears WEL on devices 5 and 6",
+    Device7WrsrIgnoresProtect = "W low does not stop WRSR with SRWD 1 on device 7",
+    Device7WrsrStoppedWithoutSrwd = "W low stops WRSR also with SRWD 0 on device 7",
+    Device7WriteStoppedByProtect = "W low stops WRITE on device 7",
+    Device5And6StoreSrwd = "WRSR stores bit 7 on devices 5 and 6",
+    Device7SrwdMissing = "WRSR does not store bit 7 on device 7",
+    Device5And6UpperBitsOne = "RDSR sends ones in the upper four bits on devices 5 and 6",
+    // Smaller boards: which states are sound, and what is loaded.
+    StateLockedIsSound = "a locked state is sound on devices 5 to 7",
+    StateIdentificationCycleIsSound = "a state in an identification cycle is sound on devices 5 to 7",
+    StateLockCycleIsSound = "a state in a lock cycle is sound on devices 5 to 7",
+    StateInstructionIsSound = "RDID, RDLS, WRID and LID are sound on devices 5 to 7",
+    StateLeftoverIsSound = "RDID, RDLS, WRID and LID are sound on devices 5 to 7 while deselected",
+    StateLockInstructionIsSound = "RDLS and LID are sound on devices 5 to 7",
+    LoadTakesLock = "lock 1 is loaded on devices 5 to 7",
+    LoadTakesSrwd = "bit 7 is loaded on devices 5 and 6",
+    LoadRefusesSrwd = "bit 7 is not loaded on device 7",
     // A view of a page.
     ViewUnaskedUnchecked = "a view does not judge the slice that was not asked for",
     ViewThreeBeforeTwo = "3 comes before 2 in a view",
@@ -228,6 +293,11 @@ faults! {
     ViewStartsAtAddress = "a view of cells starts at the address",
     ViewShowsAllCells = "a view of cells shows all of them",
     ViewIdentificationFromAddress = "a view of the identification page starts at the address's place in it",
+    ViewSmallerUnknown = "a view gives 1 for devices 5 to 7",
+    ViewSmallerAsksForPage = "a view asks for an identification page of a page's length on devices 5 to 7",
+    ViewSmallerTakesAnyLength = "a view takes an identification page of any length on devices 5 to 7",
+    ViewSmallerIsRefused = "a view of the identification page gives 3 on devices 5 to 7",
+    ViewSmallerShowsCells = "a view of the identification page shows the first page of cells on devices 5 to 7",
     // Bench program.
     BenchStatusIsStored = "the bench program ends with the stored status bits",
     BenchRefusalIsBare = "the bench program prints only the end of a refused trace",
@@ -238,5 +308,6 @@ faults! {
     BenchLengthBeforeKind = "the bench program judges the first record's length before its kind",
     BenchBodyBeforeKind = "the bench program judges the first record's body before its kind",
     BenchTakesLargeDevices = "the bench program runs devices 3 and 4",
+    BenchTakesSmallerDevices = "the bench program runs devices 5 to 7",
     BenchTakesNoInput = "the bench program takes no input for a whole one",
 }

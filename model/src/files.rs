@@ -4,7 +4,7 @@ use std::fs;
 use std::io::ErrorKind;
 
 use crate::contents::{play_wrongly, Contents};
-use crate::device::{device, Device};
+use crate::device::{Device, DEVICES};
 use crate::fault::Fault;
 
 /// Runs `play DEVICE CHIP TRACE ANSWERS`, with a mistake unless `fault` is none. Gives the line to print, or what is
@@ -24,14 +24,10 @@ pub fn play_files(fault: Fault, arguments: &[String]) -> Result<String, String> 
 }
 
 fn device_named(text: &str) -> Result<&'static Device, String> {
-    let number = match text {
-        "1" => 1,
-        "2" => 2,
-        "3" => 3,
-        "4" => 4,
-        _ => 0,
-    };
-    device(number).ok_or(format!("device {text} is not 1, 2, 3 or 4"))
+    DEVICES
+        .iter()
+        .find(|row| row.number.to_string() == text)
+        .ok_or(format!("device {text} is not 1 to {}", DEVICES.len()))
 }
 
 /// The chip's contents; a missing file means a prepared chip.

@@ -5,7 +5,7 @@
 //! running cycle), disturb that one command at one moment, and look at what came of it, so that traces get past the
 //! first bits of a selection.
 //!
-//! What no trace asks for, the bench program and a view, has inputs of its own here.
+//! What no trace asks for, the bench program, a view, a state or a load to judge, has inputs of its own here.
 
 mod commands;
 mod disturb;
@@ -13,6 +13,7 @@ mod inputs;
 mod made;
 mod malformed;
 mod random;
+mod states;
 mod steps;
 mod views;
 
@@ -23,6 +24,7 @@ pub use inputs::{bench_input, odd_bench_input, ODD_BENCH_INPUTS};
 pub use made::made_events;
 pub use malformed::{tail, TAILS};
 pub use random::Random;
+pub use states::{loads, states};
 pub use views::{view_bytes, views, View};
 
 /// What a trace is about.

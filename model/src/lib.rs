@@ -1,8 +1,8 @@
-//! A plain model of four M95 serial memories as seen from their pins.
+//! A plain model of seven M95 serial memories as seen from their pins.
 //!
-//! It is written from document 01, request W-201 of document 02 and the settled readings alone, so that it can stand
-//! beside another implementation and be compared with it by running. Names are those of document 01; comments point to
-//! it by heading.
+//! It is written from document 01, requests W-201 and W-202 of document 02 and the settled readings alone, so that it
+//! can stand beside another implementation and be compared with it by running. Names are those of document 01; comments
+//! point to it by heading.
 
 mod bench;
 mod calls;
@@ -19,13 +19,13 @@ mod state;
 mod stored;
 mod trace;
 
-pub use bench::{bench, BENCH_CELLS, BENCH_INPUT};
+pub use bench::{bench, BENCH_CELLS, BENCH_DEVICES, BENCH_INPUT};
 pub use calls::{event, load, prepare, run, stored, view, Ran, Region};
 pub use contents::{play, play_wrongly, Contents, Played};
 pub use device::{device, Device, BP, DEVICES, SRWD};
 pub use fault::Fault;
 pub use files::play_files;
-pub use mistakes::{bench_wrongly, view_wrongly};
+pub use mistakes::{bench_wrongly, is_sound_wrongly, load_wrongly, view_wrongly};
 pub use number::Number;
 pub use state::{is_sound, status_byte, Cycle, Instruction, Output, State, MOST_WHOLE_BYTES};
 pub use stored::Vector;

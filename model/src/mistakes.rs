@@ -9,15 +9,19 @@ mod edges;
 mod judging;
 mod records;
 mod sending;
+mod smaller;
+mod state;
 mod view;
 
-use crate::calls::{run_records, stored, Ran, IDENTIFICATION_CODE};
-use crate::device::Device;
+use crate::calls::{run_records, stored, Ran};
+use crate::device::{Device, IDENTIFICATION_CODE};
 use crate::fault::Fault;
 use crate::rules::Chip;
 use crate::state::{status_byte, Cycle, Output, State};
 use crate::trace::Event;
 pub use bench::bench_wrongly;
+use smaller::Believed;
+pub use state::{is_sound_wrongly, load_wrongly};
 pub use view::view_wrongly;
 
 /// The mistakes of preparing: what the identification page starts with.
@@ -49,16 +53,37 @@ pub(crate) fn run_wrongly(
     answers: &mut [u8],
     limit: usize,
 ) -> Ran {
-    match fault {
-        Fault::None => run_records(&mut chip, trace, answers, limit),
-        _ => Mistaken::new(fault, chip).run(trace, answers, limit),
+    let fault = smaller::limited(fault, chip.device);
+    if fault == Fault::None {
+        return run_records(&mut chip, trace, answers, limit);
     }
+    let Some(believed) = Believed::of(fault) else {
+        return Mistaken::new(fault, chip).run(trace, answers, limit);
+    };
+    // A page that is believed in is in the row, and has bytes of its own.
+    let row = Device {
+        identification: chip.device.page,
+        ..chip.device.clone()
+    };
+    let mut page = vec![0xFF; row.identification];
+    let chip = Chip {
+        device: &row,
+        identification: &mut page,
+        ..chip
+    };
+    Mistaken {
+        believed: Some(believed),
+        ..Mistaken::new(fault, chip)
+    }
+    .run(trace, answers, limit)
 }
 
 /// A device with a mistake.
 struct Mistaken<'a> {
     fault: Fault,
     chip: Chip<'a>,
+    /// What it does with an identification page that it has not.
+    believed: Option<Believed>,
     /// Whether a cycle ran when a mistaken reading judged the code, before the code was there.
     cycle_before_code: bool,
     /// The latch before the event, where a mistake puts it back.
@@ -94,6 +119,7 @@ impl<'a> Mistaken<'a> {
         Mistaken {
             fault,
             chip,
+            believed: None,
             cycle_before_code: false,
             data_before: Vec::new(),
             marks_before: Vec::new(),

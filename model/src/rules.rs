@@ -6,7 +6,7 @@ use crate::trace::Event;
 
 /// A device with everything that was lent to it; the lengths and the state have been judged before.
 pub(crate) struct Chip<'a> {
-    pub device: &'static Device,
+    pub device: &'a Device,
     pub state: &'a mut State,
     pub cells: &'a mut [u8],
     pub identification: &'a mut [u8],
@@ -201,11 +201,11 @@ impl Chip<'_> {
         }
     }
 
-    /// Bit 3 of a code carries A8 on device 1, whose one address byte is a bit too short for its cells, so it cannot
-    /// tell the six short codes apart there ("Instructions", Codes). Without an address it is not known yet whether
-    /// 82h and 83h mean the lock.
+    /// Bit 3 is the place of A8 where there is one address byte, so it cannot tell the six short codes apart there,
+    /// whether A8 counts or not ("Instructions", Codes). Without an address it is not known yet whether 82h and 83h
+    /// mean the lock; without an identification page they mean nothing.
     fn decode(&self, code: u8) -> Instruction {
-        let bit_3_ignored = self.device.number == 1 && code & 0xF0 == 0;
+        let bit_3_ignored = self.device.has_one_address_byte() && code & 0xF0 == 0;
         match if bit_3_ignored { code & 0x07 } else { code } {
             0x06 => Instruction::Wren,
             0x04 => Instruction::Wrdi,
@@ -213,16 +213,16 @@ impl Chip<'_> {
             0x01 => Instruction::Wrsr,
             0x03 => Instruction::Read,
             0x02 => Instruction::Write,
-            0x83 => Instruction::Rdid,
-            0x82 => Instruction::Wrid,
+            0x83 if self.device.has_identification() => Instruction::Rdid,
+            0x82 if self.device.has_identification() => Instruction::Wrid,
             _ => Instruction::Unknown,
         }
     }
 
-    /// What the address is before its first byte: A8 of device 1, which came with the code, else nothing.
+    /// What the address is before its first byte: A8 where the code brings it, else nothing.
     fn first_address_bit(&self, instruction: Instruction, code: u8) -> usize {
         let in_array = matches!(instruction, Instruction::Read | Instruction::Write);
-        if self.device.number == 1 && in_array {
+        if self.device.code_brings_a8() && in_array {
             usize::from(code >> 3 & 1)
         } else {
             0
@@ -260,7 +260,7 @@ impl Chip<'_> {
                 _ => Instruction::Lid,
             };
         }
-        self.state.address &= self.device.page - 1;
+        self.state.address &= self.device.identification - 1;
     }
 
     /// A data byte goes in as soon as it is whole, and the place rolls round within the page ("Instructions",
@@ -307,7 +307,8 @@ impl Chip<'_> {
     #[inline(always)]
     pub fn show_bit(&mut self) {
         let state = &mut *self.state;
-        let past_end = state.instruction == Instruction::Rdid && state.address >= self.device.page;
+        let past_end =
+            state.instruction == Instruction::Rdid && state.address >= self.device.identification;
         state.output = if past_end {
             Output::Z
         } else {
@@ -327,10 +328,10 @@ impl Chip<'_> {
                 self.state.sent_byte = self.cells[self.state.address];
             }
             Instruction::Rdid => {
-                if !self.is_first_byte() && self.state.address < self.device.page {
+                if !self.is_first_byte() && self.state.address < self.device.identification {
                     self.state.address += 1;
                 }
-                if self.state.address < self.device.page {
+                if self.state.address < self.device.identification {
                     self.state.sent_byte = self.identification[self.state.address];
                 }
             }
@@ -377,7 +378,7 @@ impl Chip<'_> {
 
     fn wrsr_is_done(&self) -> bool {
         let state = &*self.state;
-        let guarded = self.device.number == 1 || state.status & SRWD != 0;
+        let guarded = self.device.has_one_address_byte() || state.status & SRWD != 0;
         state.write_enable_latch && self.exactly(2) && !(state.protect_seen_low && guarded)
     }
 
@@ -409,9 +410,9 @@ impl Chip<'_> {
         !self.state.locked && self.state.status & BP != BP
     }
 
-    /// On device 1 W guards the writes themselves; on the others it guards the status register only.
+    /// Where there is one address byte W guards the writes themselves, elsewhere the status register only.
     fn protect_allows(&self) -> bool {
-        self.device.number != 1 || !self.state.protect_seen_low
+        !self.device.has_one_address_byte() || !self.state.protect_seen_low
     }
 
     /// Only what this cycle needs is set; the rest keeps its value.

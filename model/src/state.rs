@@ -23,6 +23,16 @@ pub enum Instruction {
     Lid,
 }
 
+impl Instruction {
+    /// Whether it is one of the four that need an identification page.
+    pub fn is_of_identification(self) -> bool {
+        matches!(
+            self,
+            Instruction::Rdid | Instruction::Rdls | Instruction::Wrid | Instruction::Lid
+        )
+    }
+}
+
 /// The cycle that is running.
 #[derive(Clone, Copy, Debug, PartialEq, Eq)]
 pub enum Cycle {
@@ -86,7 +96,7 @@ pub struct State {
 }
 
 impl State {
-    /// The state of a prepared device, the same on all four ("The device's state", Preparing).
+    /// The state of a prepared device, the same on all of them ("The device's state", Preparing).
     pub fn prepared() -> State {
         State {
             clock: false,
@@ -136,13 +146,14 @@ pub fn status_byte(state: &State) -> u8 {
     state.status | u8::from(state.write_enable_latch) << 1 | u8::from(state.in_cycle())
 }
 
-/// Whether this state and these marks can be a device's: the list of "A state is sound exactly if", in its order,
-/// then the marks, whose values number 5 covers too.
+/// Whether this state and these marks can be a device's: the list of "A state is sound exactly if", in its order, then
+/// what W-202 adds to it, then the marks, whose values number 5 covers too.
 pub fn is_sound(device: &Device, state: &State, marks: &[u8]) -> bool {
     received_is_sound(device, state)
         && stored_is_sound(device, state)
         && cycle_is_sound(device, state)
         && selection_is_sound(state)
+        && identification_is_sound(device, state)
         && marks.iter().all(|&mark| mark <= 1)
 }
 
@@ -181,4 +192,12 @@ fn selection_is_sound(state: &State) -> bool {
         && (!state.selected || state.protect || state.protect_seen_low)
         && (!received_in_cycle || taken_in_cycle || state.turned_away)
         && (!state.selected || state.clock || state.held != state.hold)
+}
+
+/// Without an identification page there is nothing to lock, to write to or to ask for. The instruction counts here in a
+/// deselected state too, where nothing else looks at it: it can only be left over from another device.
+fn identification_is_sound(device: &Device, state: &State) -> bool {
+    let of_cycle = matches!(state.cycle, Cycle::Identification | Cycle::Lock);
+    let of_instruction = state.instruction.is_of_identification();
+    device.has_identification() || !(state.locked || of_cycle || of_instruction)
 }

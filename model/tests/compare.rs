@@ -103,6 +103,27 @@ fn a_wrong_stored_byte_is_found() {
     assert!(first.ends_with("the other 07"), "{first}");
 }
 
+/// The chip of a device without an identification page has no bytes between its cells and its status.
+#[test]
+fn a_wrong_byte_of_a_chip_without_a_page_is_found() {
+    for (place, part) in [(127, "cell 7Fh"), (128, "status"), (129, "lock")] {
+        let directory = directory("without_page");
+        let spoil = format!(
+            "{PLAY} \"$@\"; test \"$1\" != 5 || \
+             printf '\\007' | dd of=\"$2\" bs=1 seek={place} conv=notrunc 2>/dev/null"
+        );
+        let play = script(&directory, &spoil);
+        let output = compare(&directory, &play, BENCH);
+        assert_eq!(output.status.code(), Some(1));
+        let text = text(&output);
+        let first = text.lines().next().expect("a difference");
+        assert!(
+            first.contains(&format!("device 5: {part}: the model stores ")),
+            "{first}"
+        );
+    }
+}
+
 #[test]
 fn a_wrong_line_is_found() {
     let directory = directory("line");

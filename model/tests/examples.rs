@@ -90,7 +90,7 @@ fn example_8_a8_comes_with_the_code_of_device_1() {
 
 #[test]
 fn example_9_nine_rises_are_no_wren() {
-    for number in 1..=4 {
+    for number in 1..=7 {
         let mut board = Board::new(number);
         board.command_of(&[0x06, 0x00], 9);
         assert_eq!(board.status(), 0x00);

@@ -2,9 +2,10 @@
 
 use std::process::Command;
 
-use m95_model::generate::{trace, view_bytes, views, Profile, View};
+use m95_model::generate::{loads, states, trace, view_bytes, views, Profile, View};
 use m95_model::{
-    play, play_wrongly, view, view_wrongly, Contents, Device, Fault, Number, Region, DEVICES,
+    is_sound, is_sound_wrongly, load, load_wrongly, play, play_wrongly, view, view_wrongly,
+    Contents, Cycle, Device, Fault, Instruction, Number, Region, DEVICES,
 };
 
 /// A fault whose place the trace never reaches must change nothing: the mistakes stand around the right model.
@@ -22,8 +23,12 @@ fn a_fault_elsewhere_changes_nothing() {
         Fault::IdentificationCodeMissing,
     ]
     .into_iter()
-    .chain(view_faults())
-    {
+    .chain(
+        Fault::ALL
+            .iter()
+            .copied()
+            .filter(|fault| !fault.is_of_trace()),
+    ) {
         let mut second = Contents::prepared_wrongly(fault, device);
         let all = usize::MAX;
         let wrong = play_wrongly(fault, device, &mut second, &trace, all, all);
@@ -41,7 +46,108 @@ fn names_and_meanings_are_all_different() {
     assert!(!Fault::ALL.contains(&Fault::None));
 }
 
-/// `play` asks for no view and is not the bench program, so a fault of theirs would never be found in it.
+/// The devices that the name of a fault says it is about, or none where it names no device.
+fn devices_named(fault: Fault) -> Option<&'static [u8]> {
+    let name = format!("{fault:?}");
+    let starts: [(&str, &[u8]); 7] = [
+        ("Smaller", &[5, 6, 7]),
+        ("Device5And6", &[5, 6]),
+        ("Device5", &[5]),
+        ("Device6", &[6]),
+        ("Device7", &[7]),
+        ("Device3", &[3]),
+        ("Device1", &[1]),
+    ];
+    let ends: [(&str, &[u8]); 2] = [("OnDevice1", &[1]), ("OnDevice3", &[3])];
+    let started = starts.iter().find(|(start, _)| name.starts_with(start));
+    let ended = ends.iter().find(|(end, _)| name.ends_with(end));
+    started.or(ended).map(|(_, devices)| *devices)
+}
+
+#[test]
+fn a_fault_of_some_devices_changes_nothing_on_the_others() {
+    for device in &DEVICES {
+        let trace = trace(Profile::Mixed, device, 12, 4000);
+        let mut first = Contents::prepared(device);
+        let right = play(device, &mut first, &trace);
+        let others = Fault::ALL.iter().copied().filter(|fault| {
+            devices_named(*fault).is_some_and(|named| !named.contains(&device.number))
+        });
+        for fault in others {
+            let mut second = Contents::prepared_wrongly(fault, device);
+            let all = usize::MAX;
+            let wrong = play_wrongly(fault, device, &mut second, &trace, all, all);
+            assert_eq!(right, wrong, "{fault:?} {}", device.name);
+            assert_eq!(first, second, "{fault:?} {}", device.name);
+        }
+    }
+}
+
+/// A mistake of this sort lets a state pass that has nothing else against it, and stops none.
+#[test]
+fn a_state_is_called_sound_at_the_place_of_its_fault_and_nowhere_else() {
+    for fault in Fault::ALL.iter().copied().chain([Fault::None]) {
+        for row in &DEVICES {
+            let marks = vec![0; row.page];
+            let mut noticed = 0;
+            for state in states(row) {
+                let (instruction, cycle) = (state.instruction, state.cycle);
+                let of_lock = matches!(instruction, Instruction::Rdls | Instruction::Lid);
+                let of_page =
+                    of_lock || matches!(instruction, Instruction::Rdid | Instruction::Wrid);
+                let of_cycle = matches!(cycle, Cycle::Identification | Cycle::Lock);
+                let only_lock = state.locked && !of_page && !of_cycle;
+                let only_cycle = of_cycle && !of_page && !state.locked;
+                let only_instruction = of_page && !of_cycle && !state.locked;
+                let place = match fault {
+                    Fault::StateLockedIsSound => only_lock,
+                    Fault::StateIdentificationCycleIsSound => {
+                        only_cycle && cycle == Cycle::Identification
+                    }
+                    Fault::StateLockCycleIsSound => only_cycle && cycle == Cycle::Lock,
+                    Fault::StateInstructionIsSound => only_instruction,
+                    Fault::StateLeftoverIsSound => only_instruction && !state.selected,
+                    Fault::StateLockInstructionIsSound => only_instruction && of_lock,
+                    _ => false,
+                };
+                let right = is_sound(row, &state, &marks);
+                let wrong = is_sound_wrongly(fault, row, &state, &marks);
+                let expected = place && !row.has_identification();
+                assert_eq!((wrong, right != wrong), (right || expected, expected));
+                noticed += usize::from(right != wrong);
+            }
+            let expected = fault.is_of_state() && !row.has_identification();
+            assert_eq!(noticed > 0, expected, "{fault:?} {}", row.name);
+        }
+    }
+}
+
+#[test]
+fn a_load_is_wrong_at_the_place_of_its_fault_and_nowhere_else() {
+    for fault in Fault::ALL.iter().copied().chain([Fault::None]) {
+        let mut noticed = 0;
+        for (number, status, lock) in loads() {
+            let (bits, srwd) = (status & !0x80, status & 0x80 != 0);
+            let can_be = bits & !0x0C == 0;
+            let place = match fault {
+                Fault::LoadTakesLock if number == 7 => can_be && lock == 1,
+                Fault::LoadTakesLock => matches!(number, 5 | 6) && can_be && !srwd && lock == 1,
+                Fault::LoadTakesSrwd => matches!(number, 5 | 6) && can_be && srwd && lock == 0,
+                Fault::LoadRefusesSrwd => number == 7 && can_be && srwd && lock == 0,
+                _ => false,
+            };
+            let right = load(number, status, lock);
+            let wrong = load_wrongly(fault, number, status, lock);
+            let asked = format!("{fault:?} device {number} status {status:02X} lock {lock}");
+            assert_eq!(right != wrong, place, "{asked}");
+            noticed += usize::from(place);
+        }
+        assert_eq!(noticed > 0, fault.is_of_load(), "{fault:?}");
+    }
+}
+
+/// `play` asks for no view and is not the bench program, so a fault of theirs would never be found in it; nor would one
+/// of the states and loads that it never has.
 #[test]
 fn wrong_play_has_the_faults_of_traces_alone() {
     let output = Command::new(env!("CARGO_BIN_EXE_wrong_play"))
@@ -51,8 +157,9 @@ fn wrong_play_has_the_faults_of_traces_alone() {
     let text = String::from_utf8(output.stdout).expect("text");
     let listed: Vec<&str> = text.lines().collect();
     for fault in Fault::ALL {
-        let of_traces = !fault.is_of_bench() && !fault.is_of_view();
         let name = format!("{fault:?}");
+        let others = ["Bench", "View", "State", "Load"];
+        let of_traces = !others.iter().any(|other| name.starts_with(other));
         assert_eq!(listed.contains(&name.as_str()), of_traces, "{name}");
     }
     let refused = Command::new(env!("CARGO_BIN_EXE_wrong_play"))
@@ -62,19 +169,13 @@ fn wrong_play_has_the_faults_of_traces_alone() {
     assert_eq!(refused.status.code(), Some(2));
 }
 
-fn view_faults() -> impl Iterator<Item = Fault> {
-    Fault::ALL
-        .iter()
-        .copied()
-        .filter(|fault| fault.is_of_view())
-}
-
 /// Where the fault of a view must differ from the right one; everywhere else it must not.
 fn is_place_of(fault: Fault, row: &Device, view: &View, right: Number) -> bool {
     let known = view.device == row.number;
     let cells_wrong = known && view.cells != row.cells;
-    let page_wrong = known && view.identification != row.page;
+    let page_wrong = known && view.identification != row.identification;
     let passed = known && !cells_wrong && !page_wrong;
+    let a_page_lent = known && view.identification == row.page;
     let of_cells = view.region == Region::Cells;
     let past = view.address >= row.cells;
     let within_page = !view.address.is_multiple_of(row.page);
@@ -93,12 +194,33 @@ fn is_place_of(fault: Fault, row: &Device, view: &View, right: Number) -> bool {
         Fault::ViewAddressWraps => passed && of_cells && past,
         Fault::ViewStartsAtAddress => passed && of_cells && !past && within_page,
         Fault::ViewShowsAllCells => passed && of_cells && !past,
-        Fault::ViewIdentificationFromAddress => passed && !of_cells && within_page,
+        Fault::ViewIdentificationFromAddress => {
+            passed && !of_cells && within_page && row.has_identification()
+        }
+        _ if row.has_identification() => false,
+        Fault::ViewSmallerUnknown => known,
+        Fault::ViewSmallerAsksForPage => passed || a_page_lent && !cells_wrong,
+        Fault::ViewSmallerTakesAnyLength => page_wrong && !cells_wrong,
+        Fault::ViewSmallerIsRefused | Fault::ViewSmallerShowsCells => passed && !of_cells,
         _ => false,
     }
 }
 
-/// Faults of a trace and of the bench program have no place in a view, so they are held to changing nothing.
+/// Whether a device has a place at all for the fault of a view: those of smaller boards have none elsewhere, and
+/// without an identification page there is nothing to start at an address.
+fn has_place(fault: Fault, row: &Device) -> bool {
+    match fault {
+        Fault::ViewSmallerUnknown
+        | Fault::ViewSmallerAsksForPage
+        | Fault::ViewSmallerTakesAnyLength
+        | Fault::ViewSmallerIsRefused
+        | Fault::ViewSmallerShowsCells => !row.has_identification(),
+        Fault::ViewIdentificationFromAddress => row.has_identification(),
+        _ => fault.is_of_view(),
+    }
+}
+
+/// Faults of anything else have no place in a view, so they are held to changing nothing.
 #[test]
 fn a_view_is_wrong_at_the_place_of_its_fault_and_nowhere_else() {
     let (cells, identification) = view_bytes();
@@ -113,7 +235,8 @@ fn a_view_is_wrong_at_the_place_of_its_fault_and_nowhere_else() {
                 assert_eq!(differs, place, "{fault:?} {view:?}");
                 noticed += usize::from(differs);
             }
-            assert_eq!(noticed > 0, fault.is_of_view(), "{fault:?} {}", row.name);
+            let expected = has_place(fault, row);
+            assert_eq!(noticed > 0, expected, "{fault:?} {}", row.name);
         }
     }
 }

@@ -5,8 +5,8 @@ mod common;
 use common::Board;
 use m95_model::generate::{events, records_of, tail, trace, Profile, Random, TAILS};
 use m95_model::{
-    device, is_sound, play, status_byte, Contents, Cycle, Device, Event, Instruction, Number,
-    Output, State, DEVICES,
+    is_sound, play, status_byte, Contents, Cycle, Device, Event, Instruction, Number, Output,
+    State, DEVICES,
 };
 
 const RECORDS: usize = 12_000;
@@ -203,14 +203,15 @@ fn leaves_pins_alone(events: &[Event], levels: &[[bool; 4]], selection: &Selecti
 
 #[test]
 fn every_tail_is_refused_with_its_number() {
-    let device = device(2).expect("device 2");
-    let mut seen = [0; 12];
-    for which in 0..TAILS {
-        let mut contents = Contents::prepared(device);
-        let played = play(device, &mut contents, &tail(device, which));
-        seen[played.ran.number as usize] += 1;
+    for device in &DEVICES {
+        let mut seen = [0; 12];
+        for which in 0..TAILS {
+            let mut contents = Contents::prepared(device);
+            let played = play(device, &mut contents, &tail(device, which));
+            seen[played.ran.number as usize] += 1;
+        }
+        assert_eq!(seen, [0, 0, 0, 0, 0, 0, 14, 11, 13, 6, 0, 8]);
     }
-    assert_eq!(seen, [0, 0, 0, 0, 0, 0, 14, 11, 13, 6, 0, 8]);
 }
 
 #[test]

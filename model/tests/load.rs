@@ -6,34 +6,45 @@ mod common;
 use common::{Board, FALL, RISE};
 use m95_model::generate::{records_of, trace, Profile};
 use m95_model::{
-    is_sound, load, play, status_byte, stored, Contents, Cycle, Device, Event, Instruction, Number,
-    Output, Ran, State, DEVICES,
+    device, is_sound, load, play, status_byte, stored, Contents, Cycle, Device, Event, Instruction,
+    Number, Output, Ran, State, DEVICES,
 };
 
-/// Every byte that the status bits of a device can be: BP1 and BP0, and SRWD on all but device 1.
+/// Every byte that the status bits of a device can be: BP1 and BP0, and SRWD where there is more than one address byte.
 fn statuses(number: u8) -> &'static [u8] {
     match number {
-        1 => &[0x00, 0x04, 0x08, 0x0C],
-        2..=4 => &[0x00, 0x04, 0x08, 0x0C, 0x80, 0x84, 0x88, 0x8C],
+        1 | 5 | 6 => &[0x00, 0x04, 0x08, 0x0C],
+        2..=4 | 7 => &[0x00, 0x04, 0x08, 0x0C, 0x80, 0x84, 0x88, 0x8C],
         _ => &[],
     }
 }
 
-/// All that the four devices can store.
+/// Every lock that a device can have: without an identification page there is none to set.
+fn locks(number: u8) -> &'static [u8] {
+    match number {
+        1..=4 => &[0, 1],
+        _ => &[0],
+    }
+}
+
+/// All that the devices can store.
 fn all_stored() -> impl Iterator<Item = (&'static Device, u8, u8)> {
     DEVICES.iter().flat_map(|device| {
         let bytes = statuses(device.number).iter();
-        bytes.flat_map(move |&status| [(device, status, 0), (device, status, 1)])
+        bytes.flat_map(move |&status| {
+            let locks = locks(device.number).iter();
+            locks.map(move |&lock| (device, status, lock))
+        })
     })
 }
 
 #[test]
 fn every_device_status_and_lock_is_judged() {
-    for number in 0..=6 {
+    for number in 0..=9 {
         for (status, lock) in (0..=255).flat_map(|one| (0..=255).map(move |other| (one, other))) {
-            let can_be = statuses(number).contains(&status) && [0, 1].contains(&lock);
+            let can_be = statuses(number).contains(&status) && locks(number).contains(&lock);
             let expected = match number {
-                0 | 5 | 6 => Number::Device,
+                0 | 8 | 9 => Number::Device,
                 _ if can_be => Number::Done,
                 _ => Number::State,
             };
@@ -78,11 +89,11 @@ fn loaded(device: &Device, status: u8, lock: u8) -> Board {
     board
 }
 
-/// LID, with the code, the address and its data byte.
+/// LID, with the code, the address and its data byte; nothing on devices 5 to 7.
 fn lid(device: &Device) -> Vec<u8> {
     match device.number {
-        1 => vec![0x82, 0x80, 0x02],
-        2 => vec![0x82, 0x04, 0x00, 0x02],
+        1 | 5 | 6 => vec![0x82, 0x80, 0x02],
+        2 | 7 => vec![0x82, 0x04, 0x00, 0x02],
         _ => vec![0x82, 0x00, 0x04, 0x00, 0x02],
     }
 }
@@ -175,7 +186,7 @@ fn running_cycle_still_stores_the_old() {
 
         let mut board = loaded(device, status, 0);
         board.start_write(&lid(device));
-        let done = status & 0x0C != 0x0C;
+        let done = status & 0x0C != 0x0C && locks(device.number).contains(&1);
         assert_eq!(board.state.cycle == Cycle::Lock, done);
         board.wait(device.write_time - 1);
         assert_eq!(stored(&board.state), (status, 0));
@@ -212,20 +223,25 @@ fn unsound_state_gives_its_bits_as_they_are() {
 /// One number stands for both bytes, but the message of a chip's file says which one is wrong, the status first.
 #[test]
 fn chips_file_says_which_byte_is_wrong() {
-    let device = &DEVICES[0];
-    let mut file = Contents::prepared(device).to_bytes();
-    let place = file.len() - 2;
-    for (status, lock) in (0..=255).flat_map(|one| [0, 1, 2, 255].map(|other| (one, other))) {
-        file[place..].copy_from_slice(&[status, lock]);
-        let expected = match (status, lock) {
-            (0x00 | 0x04 | 0x08 | 0x0C, 0 | 1) => Ok(file.clone()),
-            (0x00 | 0x04 | 0x08 | 0x0C, _) => Err(format!("lock is {lock}, not 0 or 1")),
-            _ => Err(format!(
-                "status {status:02X} has bits that device 1 has not"
-            )),
-        };
-        let read = Contents::from_bytes(device, &file);
-        assert_eq!(read.map(|contents| contents.to_bytes()), expected);
+    for (number, right) in [(1, "0 or 1"), (2, "0 or 1"), (5, "0"), (6, "0"), (7, "0")] {
+        let device = device(number).expect("a device of the table");
+        let mut file = Contents::prepared(device).to_bytes();
+        let place = file.len() - 2;
+        for (status, lock) in (0..=255).flat_map(|one| [0, 1, 2, 255].map(|other| (one, other))) {
+            file[place..].copy_from_slice(&[status, lock]);
+            let status_is_right = statuses(number).contains(&status);
+            let expected = if !status_is_right {
+                Err(format!(
+                    "status {status:02X} has bits that device {number} has not"
+                ))
+            } else if locks(number).contains(&lock) {
+                Ok(file.clone())
+            } else {
+                Err(format!("lock is {lock}, not {right}"))
+            };
+            let read = Contents::from_bytes(device, &file);
+            assert_eq!(read.map(|contents| contents.to_bytes()), expected);
+        }
     }
 }
 

@@ -37,25 +37,30 @@ fn whole(board: &Board) -> (State, Vec<u8>, Vec<u8>, Vec<u8>) {
 
 #[test]
 fn preparing() {
-    for (number, cells, page) in [
-        (1, 512, 16),
-        (2, 16_384, 64),
-        (3, 131_072, 256),
-        (4, 262_144, 256),
+    for (number, cells, page, identification) in [
+        (1, 512, 16, 16),
+        (2, 16_384, 64, 64),
+        (3, 131_072, 256, 256),
+        (4, 262_144, 256, 256),
+        (5, 128, 16, 0),
+        (6, 256, 16, 0),
+        (7, 16_384, 64, 0),
     ] {
         let (mut array, mut identification, mut latch) =
-            (vec![1; cells], vec![2; page], vec![3; 2 * page]);
+            (vec![1; cells], vec![2; identification], vec![3; 2 * page]);
         let (done, state) = prepare(number, &mut array, &mut identification, &mut latch);
         assert_eq!(done, Number::Done);
         assert!(array.iter().all(|&cell| cell == 0xFF));
         assert!(latch.iter().all(|&byte| byte == 0));
-        let start = if number == 4 {
-            [0x20, 0x00, 0x12]
+        let start: &[u8] = if number == 4 {
+            &[0x20, 0x00, 0x12]
         } else {
-            [0xFF; 3]
+            &[]
         };
-        assert_eq!(identification[..3], start);
-        assert!(identification[3..].iter().all(|&byte| byte == 0xFF));
+        assert!(identification.starts_with(start));
+        assert!(identification[start.len()..]
+            .iter()
+            .all(|&byte| byte == 0xFF));
         assert!(state.select && state.hold && state.protect && !state.clock && !state.data);
         assert!(!state.selected && !state.locked && !state.write_enable_latch && !state.in_cycle());
         assert_eq!(state.status, 0);
@@ -67,7 +72,7 @@ fn refused_preparing_changes_nothing() {
     // Everything is wrong at first; then one thing after another is made right.
     for (number, cells, page, latch, expected) in [
         (0, 511, 15, 33, Number::Device),
-        (5, 511, 15, 33, Number::Device),
+        (8, 511, 15, 33, Number::Device),
         (1, 511, 15, 33, Number::Cells),
         (1, 16_384, 15, 33, Number::Cells),
         (1, 512, 15, 33, Number::Identification),
@@ -284,7 +289,7 @@ fn lent() -> impl Iterator<Item = (&'static Device, Vec<u8>, Vec<u8>)> {
     let (cells, identification) = view_bytes();
     DEVICES.iter().map(move |row| {
         let cells = cells[..row.cells].to_vec();
-        (row, cells, identification[..row.page].to_vec())
+        (row, cells, identification[..row.identification].to_vec())
     })
 }
 
@@ -330,7 +335,7 @@ fn a_view_gives_1_2_3_and_13_in_order() {
     // Everything is wrong at first; then one thing after another is made right.
     for (number, cells, page, address, of_cells) in [
         (0, 511, 15, 512, Number::Device),
-        (5, 512, 16, 0, Number::Device),
+        (8, 512, 16, 0, Number::Device),
         (255, 512, 16, 512, Number::Device),
         (1, 511, 15, 512, Number::Cells),
         (1, 513, 17, 0, Number::Cells),
@@ -362,7 +367,14 @@ fn a_view_judges_the_slice_that_was_not_asked_for() {
             let given = view(row.number, region, wrong, &identification, 0);
             assert_eq!(given, (Number::Cells, NO_PART), "{}", row.name);
         }
-        for wrong in [&identification[1..], &cells, NO_PART] {
+        // A byte more, a byte less where there is one, a page where none is due or none where one is, and the cells.
+        let lengths = [
+            row.identification + 1,
+            row.identification.max(2) - 1,
+            row.page - row.identification,
+            row.cells,
+        ];
+        for wrong in lengths.map(|length| &cells[..length]) {
             let given = view(row.number, Region::Cells, &cells, wrong, 0);
             assert_eq!(given, (Number::Identification, NO_PART), "{}", row.name);
         }
@@ -377,7 +389,10 @@ fn number_due(view: &View) -> Number {
     let past = view.region == Region::Cells && view.address >= row.cells;
     let rows = [
         (Number::Cells, view.cells != row.cells),
-        (Number::Identification, view.identification != row.page),
+        (
+            Number::Identification,
+            view.identification != row.identification,
+        ),
         (Number::Address, past),
         (Number::Done, true),
     ];
@@ -393,7 +408,11 @@ fn every_chosen_view_gives_the_number_due() {
         for view in views(row) {
             let (number, part) = view.show(Fault::None, &cells, &identification);
             assert_eq!(number, number_due(&view), "{view:?}");
-            let length = if number == Number::Done { row.page } else { 0 };
+            let length = match (number, view.region) {
+                (Number::Done, Region::Cells) => row.page,
+                (Number::Done, Region::Identification) => row.identification,
+                _ => 0,
+            };
             assert_eq!(part.len(), length, "{view:?}");
             if !seen.contains(&(view.region, number)) {
                 seen.push((view.region, number));

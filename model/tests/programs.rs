@@ -46,7 +46,7 @@ fn first_record_is_judged_by_6_7_8_6_1_after_12() {
     assert_eq!(bench(&[2, 0, 16, 0]), "end 8 --\n");
     assert_eq!(bench(&[3, 1, 16, 0]), "end 8 --\n");
     assert_eq!(bench(&[3, 0, 16, 0]), "end 6 --\n");
-    for device in [0, 3, 4, 255] {
+    for device in [0, 3, 4, 5, 6, 7, 8, 255] {
         assert_eq!(bench(&[3, 0, 16, 0, device]), "end 1 --\n");
     }
     let long = vec![0; 32_769];
@@ -204,6 +204,71 @@ fn play_reads_status_and_lock_and_stops_at_a_refusal() {
     assert_eq!(place.get("chip"), chip);
 }
 
+/// A missing chip becomes a prepared one in the long form, which has no identification bytes on devices 5 to 7.
+#[test]
+fn play_takes_every_row() {
+    let place = Place::new("rows");
+    for (device, cells, identification) in [
+        ("1", 512, 16),
+        ("2", 16_384, 64),
+        ("3", 131_072, 256),
+        ("4", 262_144, 256),
+        ("5", 128, 0),
+        ("6", 256, 0),
+        ("7", 16_384, 0),
+    ] {
+        let _ = fs::remove_file(place.path("chip"));
+        place.put_trace(&[Event::Power]);
+        assert_eq!(line(&place.play(device)), "end 0 00 records 1 bytes 4\n");
+        let chip = place.get("chip");
+        assert_eq!(chip.len(), cells + identification + 2);
+        assert!(chip[..cells].iter().all(|&cell| cell == 0xFF));
+        assert_eq!(chip[cells + identification..], [0, 0]);
+    }
+}
+
+#[test]
+fn play_goes_on_with_a_chip_without_an_identification_page() {
+    let place = Place::new("without_page");
+    let mut chip: Vec<u8> = (0..128).collect();
+    place.put("chip", &chip);
+    let write = [selection(&[0x0E]), selection(&[0x0A, 0x85, 0xA5])].concat();
+    place.put_trace(&[write, vec![Event::Wait(5000)]].concat());
+    assert!(line(&place.play("5")).starts_with("end 0 00 "));
+    chip[5] = 0xA5;
+    chip.extend([0, 0]);
+    assert_eq!(place.get("chip"), chip);
+    // The long form is read back, with its status bits.
+    chip[128] = 0x0C;
+    place.put("chip", &chip);
+    place.put_trace(&[]);
+    assert_eq!(line(&place.play("5")), "end 0 0C records 0 bytes 0\n");
+    assert_eq!(place.get("chip"), chip);
+}
+
+/// Where nothing can be locked, 1 is as wrong as 2.
+#[test]
+fn play_says_that_such_a_chip_has_no_lock() {
+    let place = Place::new("no_lock");
+    place.put("answers", b"as it was");
+    place.put_trace(&[Event::Power]);
+    for (device, cells, lock) in [
+        ("5", 128, 1),
+        ("6", 256, 1),
+        ("7", 16_384, 1),
+        ("7", 16_384, 2),
+    ] {
+        let mut chip = vec![0; cells];
+        chip.extend([0, lock]);
+        place.put("chip", &chip);
+        let output = place.play(device);
+        assert_refused(&place, &output, &chip);
+        let message = String::from_utf8_lossy(&output.stderr);
+        let expected = format!("lock is {lock}, not 0\n");
+        assert!(message.ends_with(&expected), "{message}");
+    }
+}
+
 #[test]
 fn bad_use_changes_no_file() {
     let place = Place::new("bad_use");
@@ -216,13 +281,18 @@ fn bad_use_changes_no_file() {
     place.put_trace(&[Event::Power]);
     for (device, chip) in [
         ("0", vec![0; long]),
-        ("5", vec![0; long]),
+        ("8", vec![0; long]),
         ("01", vec![0; long]),
         ("1", vec![0; long - 1]),
         ("1", vec![0; 513]),
         ("2", vec![0; 512]),
         ("1", wrong_status),
         ("1", wrong_lock),
+        // The lengths of devices 1 and 2, which have an identification page, and a byte too few.
+        ("5", vec![0; 128 + 16 + 2]),
+        ("6", vec![0; long]),
+        ("7", vec![0; 16_384 + 64 + 2]),
+        ("7", vec![0; 16_384 + 1]),
     ] {
         place.put("chip", &chip);
         let output = place.play(device);

@@ -66,7 +66,7 @@ fn deselected_while_held_goes_by_the_stored_flag() {
 
 #[test]
 fn deselected_while_held_is_dropped_on_all_devices() {
-    for number in 1..=4 {
+    for number in 1..=7 {
         let mut board = Board::new(number);
         board.select();
         board.bytes(&[0x06]);
@@ -183,7 +183,7 @@ fn w_low_outside_the_selection_does_not_count() {
 
 #[test]
 fn w_low_stops_no_wren_and_keeps_wel() {
-    for number in 1..=4 {
+    for number in 1..=7 {
         let mut board = Board::new(number);
         board.set(Event::Protect(false));
         board.command(&[0x06]);
@@ -313,7 +313,7 @@ fn a_wait_of_0_ends_no_cycle_and_the_longest_ends_it() {
 
 #[test]
 fn rdsr_takes_the_status_afresh_at_each_top_bit() {
-    for number in 1..=4 {
+    for number in 1..=7 {
         let mut board = Board::new(number);
         board.start_write(&[0x01, 0x0C]);
         board.select();
@@ -559,6 +559,9 @@ fn protection_limits_on_every_device() {
         (2, 16_384, 64),
         (3, 131_072, 256),
         (4, 262_144, 256),
+        (5, 128, 16),
+        (6, 256, 16),
+        (7, 16_384, 64),
     ] {
         for (bits, first) in [(0x04, cells / 4 * 3), (0x08, cells / 2), (0x0C, 0)] {
             let mut board = Board::new(number);
@@ -582,7 +585,8 @@ fn write_at(number: u8, address: usize, data: u8) -> Vec<u8> {
     let byte = |shift: usize| (address >> shift & 0xFF) as u8;
     match number {
         1 => vec![0x02 | byte(8) << 3, byte(0), data],
-        2 => vec![0x02, byte(8), byte(0), data],
+        5 | 6 => vec![0x02, byte(0), data],
+        2 | 7 => vec![0x02, byte(8), byte(0), data],
         _ => vec![0x02, byte(16), byte(8), byte(0), data],
     }
 }

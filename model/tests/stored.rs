@@ -3,9 +3,13 @@
 use std::fs;
 use std::path::{Path, PathBuf};
 use std::process::Command;
+use std::sync::OnceLock;
 
 use m95_model::generate::Profile;
 use m95_model::{append_record, device, Event, Fault, Vector};
+
+/// Of the ten files together, in the order of the profiles, as they were when devices 5 to 7 joined.
+const BASE_SUM: u64 = 0x3F70_B6B2_08CD_73FF;
 
 /// The files of `store` in a directory of the test's own.
 fn store(name: &str) -> PathBuf {
@@ -19,9 +23,15 @@ fn store(name: &str) -> PathBuf {
     directory
 }
 
+/// The files of one run of `store` that all tests may read; making them takes a while.
+fn stored() -> &'static Path {
+    static DIRECTORY: OnceLock<PathBuf> = OnceLock::new();
+    DIRECTORY.get_or_init(|| store("first"))
+}
+
 #[test]
 fn all_vectors_are_read_back_and_replayed() {
-    let directory = store("replayed");
+    let directory = stored();
     let (mut size, mut count) = (0, 0);
     for profile in Profile::ALL {
         let file = fs::read(directory.join(profile.name())).expect("a file");
@@ -37,23 +47,61 @@ fn all_vectors_are_read_back_and_replayed() {
             vector.append_to(&mut again);
         }
         assert_eq!(again, file);
-        for number in 1..=4 {
+        for number in 1..=7 {
             let of_device = vectors.iter().filter(|one| one.device == number);
             assert!(of_device.count() >= 5, "{} {number}", profile.name());
         }
+        assert!(file.len() < 131_072, "{} {}", profile.name(), file.len());
         size += file.len();
         count += vectors.len();
     }
-    assert!(size < 900_000, "{size} bytes");
-    assert!(count >= 300, "{count} vectors");
+    assert!(size < 1_100_000, "{size} bytes");
+    assert!(count >= 500, "{count} vectors");
+}
+
+/// The files beside the model are those that it writes today.
+#[test]
+fn stored_files_are_those_of_today() {
+    let kept = Path::new(env!("CARGO_MANIFEST_DIR")).join("../crates/vectors/data");
+    let written = stored();
+    for profile in Profile::ALL {
+        let read = |directory: &Path| fs::read(directory.join(profile.name())).expect("a file");
+        assert!(read(&kept) == read(written), "{}", profile.name());
+    }
+}
+
+/// Another implementation may name a vector by its place in a file, and the traces of a device by their seeds. So the
+/// vectors of devices 1 to 4 stay first in each file, byte for byte as they were before there were others.
+#[test]
+fn vectors_of_the_base_stay_first_and_as_they_were() {
+    let directory = stored();
+    let (mut count, mut bytes) = (0, Vec::new());
+    for profile in Profile::ALL {
+        let file = fs::read(directory.join(profile.name())).expect("a file");
+        let vectors = Vector::read_all(&file).expect("whole vectors");
+        let is_of_base = |vector: &&Vector| vector.device <= 4;
+        let base: Vec<&Vector> = vectors.iter().take_while(is_of_base).collect();
+        assert_eq!(vectors.iter().filter(is_of_base).count(), base.len());
+        count += base.len();
+        base.iter().for_each(|vector| vector.append_to(&mut bytes));
+    }
+    assert_eq!((count, bytes.len()), (354, 617_935));
+    assert_eq!(sum(&bytes), BASE_SUM);
+}
+
+/// FNV-1a of 64 bits.
+fn sum(bytes: &[u8]) -> u64 {
+    bytes.iter().fold(0xCBF2_9CE4_8422_2325, |sum, &byte| {
+        (sum ^ u64::from(byte)).wrapping_mul(0x0100_0000_01B3)
+    })
 }
 
 #[test]
 fn same_files_each_time() {
-    let (first, second) = (store("first"), store("second"));
+    let (first, second) = (stored(), store("second"));
     for profile in Profile::ALL {
         let read = |directory: &Path| fs::read(directory.join(profile.name())).expect("a file");
-        assert_eq!(read(&first), read(&second), "{}", profile.name());
+        assert_eq!(read(first), read(&second), "{}", profile.name());
     }
 }
 
@@ -61,7 +109,7 @@ fn same_files_each_time() {
 fn stored_vectors_notice_every_fault_that_they_can() {
     let output = Command::new(env!("CARGO_BIN_EXE_sharpness"))
         .arg("--stored")
-        .arg(store("noticing"))
+        .arg(stored())
         .output()
         .expect("sharpness starts");
     let text = String::from_utf8_lossy(&output.stdout);

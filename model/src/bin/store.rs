@@ -1,5 +1,5 @@
 //! `store DIR` writes vectors to DIR, one file for each profile, named as the profile; `Vector` says how a file is
-//! laid out. The same files come out each time.
+//! laid out. The same files come out each time, and devices that join the table only append to them.
 
 use std::fs;
 use std::path::Path;
@@ -14,11 +14,44 @@ const RECORDS: usize = 400;
 const FEWEST_RECORDS: usize = 150;
 /// Bytes of most records.
 const RECORD_BYTES: usize = 5;
-/// Records before the tail of a malformed trace, at most.
-const BEFORE_TAIL: usize = 300;
-/// Of each profile and device: vectors that leave cells, identification page or lock changed, and others.
-const CHANGING: usize = 3;
-const OTHERS: usize = 2;
+/// Of a profile and a device: vectors that leave cells, identification page or lock changed, and others.
+const USUAL: Usual = Usual {
+    changing: 3,
+    others: 2,
+};
+const FEW: Usual = Usual {
+    changing: 1,
+    others: 1,
+};
+
+struct Usual {
+    changing: usize,
+    others: usize,
+}
+
+/// Devices that joined the table together. Others may refer to a vector by its place, so those of later devices stand
+/// behind all the earlier ones of the file.
+struct Landing {
+    devices: &'static [Device],
+    /// Profiles with few generated vectors, where those made by hand leave no room: a file has to stay short.
+    few: &'static [Profile],
+    /// Records before the tail of a malformed trace, at most.
+    before_tail: usize,
+}
+
+/// The base, then the smaller boards.
+static LANDINGS: [Landing; 2] = [
+    Landing {
+        devices: DEVICES.split_at(4).0,
+        few: &[],
+        before_tail: 300,
+    },
+    Landing {
+        devices: DEVICES.split_at(4).1,
+        few: &[Profile::Commands, Profile::Waits, Profile::Mixed],
+        before_tail: 200,
+    },
+];
 
 fn main() -> ExitCode {
     let arguments: Vec<String> = std::env::args().skip(1).collect();
@@ -28,7 +61,8 @@ fn main() -> ExitCode {
     };
     for profile in Profile::ALL {
         let mut file = Vec::new();
-        let vectors = vectors(profile);
+        let of_landing = |landing: &Landing| landing.vectors(profile);
+        let vectors: Vec<Vector> = LANDINGS.iter().flat_map(of_landing).collect();
         for vector in &vectors {
             vector.append_to(&mut file);
         }
@@ -47,67 +81,85 @@ fn main() -> ExitCode {
     ExitCode::SUCCESS
 }
 
-fn vectors(profile: Profile) -> Vec<Vector> {
-    if profile == Profile::Malformed {
-        return (0..TAILS).map(malformed).collect();
-    }
-    let usual = DEVICES.iter().flat_map(|device| usual(profile, device));
-    let sharp = DEVICES.iter().zip(sharp_seeds(profile));
-    let sharp = sharp.flat_map(|(device, seeds)| {
-        let seeds = seeds.iter();
-        seeds.map(|&seed| generated(profile, device, seed))
-    });
-    let made = made_events(profile);
-    let made = made
-        .iter()
-        .map(|(device, events)| Vector::of(Fault::None, device, &records_of(events)));
-    usual.chain(sharp).chain(made).collect()
-}
-
-/// A short trace with the tail number `which`. Tails of one sort follow each other in fours, so the device moves on
-/// by one more after each four.
-fn malformed(which: usize) -> Vector {
-    let device = &DEVICES[(which + which / 4 + 1) % DEVICES.len()];
-    let tail = tail(device, which);
-    let most = BEFORE_TAIL.min(RECORDS - tail.len() / RECORD_BYTES);
-    let events = short_events(Profile::Malformed, device, which as u64, most);
-    let trace = [records_of(&events), tail].concat();
-    Vector::of(Fault::None, device, &trace)
-}
-
-/// The vectors of the first seeds that give as many changing ones and others as asked for.
-fn usual(profile: Profile, device: &'static Device) -> Vec<Vector> {
-    let (mut changing, mut others) = (Vec::new(), Vec::new());
-    for seed in 0.. {
-        let vector = generated(profile, device, seed);
-        let (kept, most) = match changes(&vector) {
-            true => (&mut changing, CHANGING),
-            false => (&mut others, OTHERS),
+impl Landing {
+    fn vectors(&self, profile: Profile) -> Vec<Vector> {
+        if profile == Profile::Malformed {
+            return (0..TAILS).map(|which| self.malformed(which)).collect();
+        }
+        let devices = self.devices;
+        let most = match self.few.contains(&profile) {
+            true => FEW,
+            false => USUAL,
         };
-        if kept.len() < most && vector.answers.len() >= FEWEST_RECORDS {
-            kept.push(vector);
-        }
-        if changing.len() == CHANGING && others.len() == OTHERS {
-            break;
-        }
+        let usual = devices.iter();
+        let usual = usual.flat_map(|device| most.vectors(profile, device));
+        let seeds = sharp_seeds(profile);
+        let sharp = devices.iter().flat_map(|device| {
+            let seeds = seeds[usize::from(device.number) - 1].iter();
+            seeds.map(move |&seed| generated(profile, device, seed))
+        });
+        let made = made_events(profile, devices);
+        let made = made
+            .iter()
+            .map(|(device, events)| Vector::of(Fault::None, device, &records_of(events)));
+        usual.chain(sharp).chain(made).collect()
     }
-    changing.append(&mut others);
-    changing
+
+    /// A short trace with the tail number `which`. Tails of one sort follow each other in fours, so the device moves on
+    /// by one more after each four.
+    fn malformed(&self, which: usize) -> Vector {
+        let device = &self.devices[(which + which / 4 + 1) % self.devices.len()];
+        let tail = tail(device, which);
+        let most = self.before_tail.min(RECORDS - tail.len() / RECORD_BYTES);
+        let events = short_events(Profile::Malformed, device, which as u64, most);
+        let trace = [records_of(&events), tail].concat();
+        Vector::of(Fault::None, device, &trace)
+    }
 }
 
-/// Seeds for each device whose vectors notice faults that other vectors seldom or never notice; without them
-/// `sharpness --stored` would find faults missed.
+impl Usual {
+    /// The vectors of the first seeds that give as many changing ones and others as asked for.
+    fn vectors(&self, profile: Profile, device: &'static Device) -> Vec<Vector> {
+        let (mut changing, mut others) = (Vec::new(), Vec::new());
+        for seed in 0.. {
+            let vector = generated(profile, device, seed);
+            let (kept, most) = match changes(&vector) {
+                true => (&mut changing, self.changing),
+                false => (&mut others, self.others),
+            };
+            if kept.len() < most && vector.answers.len() >= FEWEST_RECORDS {
+                kept.push(vector);
+            }
+            if changing.len() == self.changing && others.len() == self.others {
+                break;
+            }
+        }
+        changing.append(&mut others);
+        changing
+    }
+}
+
+/// Seeds for each device whose vectors notice faults that other vectors seldom or never notice; without those of the
+/// base `sharpness --stored` would find faults missed.
 fn sharp_seeds(profile: Profile) -> [&'static [u64]; DEVICES.len()] {
     match profile {
-        Profile::Commands => [&[52], &[75, 89], &[68], &[89]],
-        Profile::Lengths => [&[36], &[15, 18, 59], &[], &[78, 85]],
-        Profile::Protect => [&[67, 72, 88, 89], &[87], &[6], &[6, 88]],
-        Profile::Glitch => [&[48, 89], &[], &[64, 86], &[61]],
-        Profile::Hold => [&[12, 33, 72], &[66, 87], &[], &[87]],
-        Profile::Waits => [&[35, 86], &[], &[86, 87], &[]],
-        Profile::Power => [&[30, 75], &[], &[85], &[85]],
-        Profile::Noise => [&[12, 38], &[78, 79], &[79], &[60]],
-        Profile::Mixed => [&[19], &[], &[67, 70, 89], &[16, 67]],
+        Profile::Commands => [&[52], &[75, 89], &[68], &[89], &[], &[], &[]],
+        Profile::Lengths => [&[36], &[15, 18, 59], &[], &[78, 85], &[], &[], &[64, 140]],
+        Profile::Protect => [&[67, 72, 88, 89], &[87], &[6], &[6, 88], &[], &[], &[]],
+        Profile::Glitch => [&[48, 89], &[], &[64, 86], &[61], &[], &[], &[117]],
+        Profile::Hold => [&[12, 33, 72], &[66, 87], &[], &[87], &[], &[], &[]],
+        Profile::Waits => [&[35, 86], &[], &[86, 87], &[], &[], &[], &[]],
+        Profile::Power => [&[30, 75], &[], &[85], &[85], &[54], &[120], &[103]],
+        Profile::Noise => [&[12, 38], &[78, 79], &[79], &[60], &[], &[], &[]],
+        Profile::Mixed => [
+            &[19],
+            &[],
+            &[67, 70, 89],
+            &[16, 67],
+            &[13, 20],
+            &[20, 127],
+            &[126],
+        ],
         Profile::Malformed => [&[]; DEVICES.len()],
     }
 }

@@ -21,7 +21,7 @@ fn faults_of_traces() -> impl Iterator<Item = Fault> {
     Fault::ALL
         .iter()
         .copied()
-        .filter(|fault| !fault.is_of_bench() && !fault.is_of_view())
+        .filter(|fault| fault.is_of_trace())
 }
 
 fn play_with(name: &str, arguments: &[String]) -> ExitCode {

@@ -5,7 +5,7 @@ use std::io::{self, ErrorKind};
 use std::path::{Path, PathBuf};
 use std::process::{Command, Output, Stdio};
 
-use crate::device::Device;
+use crate::device::{Device, DEVICES};
 
 /// A command, split at spaces.
 #[derive(Clone)]
@@ -131,11 +131,10 @@ impl Files {
         if self.kept {
             return Ok(());
         }
+        for device in &DEVICES {
+            self.remove(&super::chip_name(device))?;
+        }
         for name in [
-            "chip1",
-            "chip2",
-            "chip3",
-            "chip4",
             "chip-before",
             "chip-expected",
             "trace",

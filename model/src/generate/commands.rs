@@ -5,14 +5,17 @@ use super::random::Random;
 use crate::device::{Device, BP, SRWD};
 use crate::trace::Event;
 
-const WREN: u8 = 0x06;
-const WRDI: u8 = 0x04;
+pub(super) const WREN: u8 = 0x06;
+pub(super) const WRDI: u8 = 0x04;
 pub(super) const RDSR: u8 = 0x05;
 pub(super) const WRSR: u8 = 0x01;
 pub(super) const READ: u8 = 0x03;
 pub(super) const WRITE: u8 = 0x02;
 pub(super) const RDID: u8 = 0x83;
 pub(super) const WRID: u8 = 0x82;
+
+/// The bit that is A8 or ignored in the short codes of some devices, and makes them unknown on the others.
+pub(super) const BIT_3: u8 = 0x08;
 
 /// Codes that no device knows, and those that only some know.
 const ODD_CODES: [u8; 12] = [
@@ -68,9 +71,10 @@ impl Maker {
         self.events.len() >= self.records
     }
 
-    /// A lock can never be undone, so it may come only in some traces, and in their last part.
+    /// A lock can never be undone, so it may come only in some traces, and in their last part; where there is no
+    /// identification page nothing locks and nothing is to be spared.
     fn may_lock(&self) -> bool {
-        self.locks && self.events.len() * 4 >= self.records * 3
+        !self.device.has_identification() || self.locks && self.events.len() * 4 >= self.records * 3
     }
 
     pub fn put(&mut self, events: &[Event]) {
@@ -133,10 +137,11 @@ impl Maker {
         self.put(&events);
     }
 
-    /// One of the short codes; device 1 ignores bit 3 of it.
+    /// A code as it may come: bit 3 of a short one is ignored where there is one address byte.
     fn short_code(&mut self, code: u8) -> u8 {
-        if self.device.number == 1 && self.random.once_in(3) {
-            code | 0x08
+        let ignored = self.device.has_one_address_byte() && code & 0xF0 == 0;
+        if ignored && self.random.once_in(3) {
+            code | BIT_3
         } else {
             code
         }
@@ -216,11 +221,12 @@ impl Maker {
         address % cells
     }
 
-    /// A code and an address, with any bits above the array.
+    /// A code and an address, with any bits above the array, of the address bytes and of the code.
     pub fn array_command(&mut self, code: u8, address: usize) -> Vec<u8> {
-        if self.device.number == 1 {
+        if self.device.code_brings_a8() {
             return vec![code | (address >> 8 << 3) as u8, address as u8];
         }
+        let code = self.short_code(code);
         let above = if self.random.level() {
             usize::from(self.random.byte()) * self.device.cells
         } else {
@@ -229,7 +235,8 @@ impl Maker {
         self.with_address(code, address | above)
     }
 
-    fn with_address(&self, code: u8, address: usize) -> Vec<u8> {
+    /// A code and an address as it is; bits that the address bytes have no room for are lost.
+    pub fn with_address(&self, code: u8, address: usize) -> Vec<u8> {
         let mut bytes = vec![code];
         for place in (0..self.device.address_bytes).rev() {
             bytes.push((address >> (8 * place)) as u8);
@@ -343,7 +350,7 @@ impl Maker {
 
     /// WEL as it lets `command` show what it does: clear before WREN, else most often set.
     pub fn make_ready(&mut self, command: &Command) {
-        if command.bytes[0] & !0x08 == WREN {
+        if command.bytes[0] & !BIT_3 == WREN {
             self.disable();
         } else if !self.random.once_in(6) {
             self.enable();

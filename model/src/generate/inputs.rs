@@ -33,7 +33,7 @@ pub fn bench_input(profile: Profile, device: &'static Device, seed: u64, which: 
 /// Inputs whose first record is refused, or of the lengths at the limit.
 pub const ODD_BENCH_INPUTS: usize = REFUSED.len() + 4;
 
-const REFUSED: [&[u8]; 14] = [
+const REFUSED: [&[u8]; 18] = [
     &[],
     &[3],
     &[3, 0, 16],
@@ -47,6 +47,10 @@ const REFUSED: [&[u8]; 14] = [
     &[3, 0, 16, 0, 0],
     &[3, 0, 16, 0, 3],
     &[3, 0, 16, 0, 4],
+    &[3, 0, 16, 0, 5],
+    &[3, 0, 16, 0, 6],
+    &[3, 0, 16, 0, 7],
+    &[3, 0, 16, 0, 8],
     &[3, 0, 16, 0, 255],
 ];
 

@@ -1,9 +1,9 @@
 //! Short traces made by hand, for what a few hundred random records seldom reach: a second write after a first, a
 //! chip that is locked already, each code in a cycle, hold at each bit that is sent, and an end within a cycle.
 
-use super::commands::{Maker, RDID, RDSR, READ, WRID, WRITE, WRSR};
+use super::commands::{Maker, BIT_3, RDID, RDSR, READ, WRDI, WREN, WRID, WRITE, WRSR};
 use super::Profile;
-use crate::device::{Device, DEVICES};
+use crate::device::Device;
 use crate::trace::Event;
 
 /// A trace made by hand: the profile it belongs to, and its steps.
@@ -30,20 +30,44 @@ const MADE: [Made; 18] = [
     (Profile::Mixed, ends_in_other_cycle),
 ];
 
+/// Those for devices without an identification page alone (document 02, W-202). All of these devices get each one:
+/// where it is about one of them, the others show what must not be taken over from it.
+const MADE_WITHOUT_PAGE: [Made; 11] = [
+    (Profile::Commands, sets_bit_3_of_short_codes),
+    (Profile::Commands, sets_bit_3_of_array_codes),
+    (Profile::Commands, tells_80h_from_00h),
+    (Profile::Commands, stores_status_bits),
+    (Profile::Mixed, reads_on_at_cell_0),
+    (Profile::Mixed, reads_no_page),
+    (Profile::Mixed, writes_no_page),
+    (Profile::Protect, protects_a_quarter),
+    (Profile::Protect, protect_low_and_status),
+    (Profile::Protect, protect_low_and_array),
+    (Profile::Hold, deselects_in_hold),
+];
+
 /// Data bytes that differ from each other, from FFh and from 00h.
 const FIRST: u8 = 0xA5;
 const SECOND: u8 = 0x3C;
+
+/// A page that a short trace can fill.
+const SHORT_PAGE: usize = 16;
 
 const RISE: Event = Event::Clock(true);
 const FALL: Event = Event::Clock(false);
 const HOLD: Event = Event::Hold(false);
 const RELEASE: Event = Event::Hold(true);
 
-/// The traces of this profile, for one device after the other.
-pub fn made_events(profile: Profile) -> Vec<(&'static Device, Vec<Event>)> {
+/// The traces of this profile for these devices, each trace for one device after the other.
+pub fn made_events(
+    profile: Profile,
+    devices: &'static [Device],
+) -> Vec<(&'static Device, Vec<Event>)> {
     let mut traces = Vec::new();
-    for (place, (of, steps)) in MADE.iter().enumerate() {
-        for device in DEVICES.iter().filter(|_| *of == profile) {
+    for (place, (of, steps)) in MADE.iter().chain(&MADE_WITHOUT_PAGE).enumerate() {
+        let for_all = place < MADE.len();
+        let is_for = |device: &&Device| for_all || !device.has_identification();
+        for device in devices.iter().filter(is_for).filter(|_| *of == profile) {
             let mut maker = Maker::new(device, place as u64, 0);
             steps(&mut maker);
             traces.push((device, maker.events));
@@ -71,6 +95,20 @@ impl Maker {
     fn read_lock(&mut self) {
         let bytes = self.identification_command(RDID, 0, true);
         self.send(&[&bytes[..], &[0]].concat());
+    }
+
+    /// A command with exactly this code and address, then `data`.
+    fn send_at(&mut self, code: u8, address: usize, data: &[u8]) {
+        let bytes = self.with_address(code, address);
+        self.send(&[&bytes[..], data].concat());
+    }
+
+    /// Exactly 82h or 83h, at the start of the page and with the lock bit.
+    fn send_at_page_and_lock(&mut self, code: u8, data: u8) {
+        for address in [0, self.device.lock_bit()] {
+            self.send_at(code, address, &[data]);
+            self.send(&[RDSR, 0]);
+        }
     }
 
     /// Enables and starts a cycle that writes one cell.
@@ -230,7 +268,7 @@ fn status_at_end_of_cycle(maker: &mut Maker, pause: &[Event]) {
     maker.put(&[Event::Select(true)]);
 }
 
-/// W low in hold stops WRSR with SRWD set, and on device 1.
+/// W low in hold stops WRSR with SRWD set, and always where there is one address byte.
 fn protect_in_hold(maker: &mut Maker) {
     maker.set_status(0x80);
     maker.enable();
@@ -256,24 +294,24 @@ fn ends_in_array_cycle(maker: &mut Maker) {
     maker.look();
 }
 
-/// As before with the other three cycles, one for each device.
+/// As before with the other three cycles, one for each device; without an identification page there is only one.
 fn ends_in_other_cycle(maker: &mut Maker) {
     maker.enable();
     match maker.device.number {
         1 => maker.lock(),
-        2 => maker.send(&[WRSR, 0x8C]),
-        _ => maker.write_identification(6, FIRST),
+        3 | 4 => maker.write_identification(6, FIRST),
+        _ => maker.send(&[WRSR, 0x8C]),
     }
     maker.put(&[Event::Wait(maker.device.write_time - 1)]);
     maker.look();
 }
 
-/// A byte more than a page on device 1, so that the last byte for a place counts; on the others, whose pages are too
-/// long for a short trace, the end of a page.
+/// A byte more than a page, so that the last byte for a place counts; where pages are too long for a short trace, the
+/// end of a page.
 fn fills_a_page(maker: &mut Maker) {
     let page = maker.device.page;
     maker.enable();
-    if maker.device.number == 1 {
+    if page <= SHORT_PAGE {
         let data = [&vec![0; page][..], &[0x0F]].concat();
         maker.write_bytes(page + 3, &data);
         maker.settle();
@@ -282,4 +320,110 @@ fn fills_a_page(maker: &mut Maker) {
         maker.settle();
         maker.read_at(2 * page - 1, 2);
     }
+}
+
+/// WREN, WRDI and WRSR with bit 3 set; the status is read with and without it.
+fn sets_bit_3_of_short_codes(maker: &mut Maker) {
+    maker.send(&[WREN | BIT_3]);
+    maker.send(&[RDSR | BIT_3, 0]);
+    maker.send(&[WRDI | BIT_3]);
+    maker.send(&[RDSR, 0]);
+    maker.send(&[WREN]);
+    maker.send(&[WRSR | BIT_3, 0x04]);
+    maker.settle();
+    maker.send(&[RDSR, 0]);
+}
+
+/// WRITE with bit 3 set, to a cell of the lower half; the cell is read with and without it. A8 would be in the place of
+/// the upper half.
+fn sets_bit_3_of_array_codes(maker: &mut Maker) {
+    maker.send(&[WREN]);
+    maker.send_at(WRITE | BIT_3, 0x11, &[FIRST]);
+    maker.settle();
+    maker.send_at(READ | BIT_3, 0x11, &[0]);
+    maker.send_at(READ, 0x11, &[0]);
+}
+
+/// One cell on device 5, two on the others.
+fn tells_80h_from_00h(maker: &mut Maker) {
+    maker.send(&[WREN]);
+    maker.send_at(WRITE, 0x80, &[FIRST]);
+    maker.settle();
+    maker.send_at(READ, 0x00, &[0]);
+    maker.send_at(READ, 0x80, &[0]);
+}
+
+/// Both sides of the turn hold something, so that neither silence nor the same cell again looks right.
+fn reads_on_at_cell_0(maker: &mut Maker) {
+    let last = maker.device.cells - 1;
+    for (address, value) in [(last, FIRST), (0, SECOND)] {
+        maker.send(&[WREN]);
+        maker.send_at(WRITE, address, &[value]);
+        maker.settle();
+    }
+    maker.send_at(READ, last, &[0, 0]);
+}
+
+fn stores_status_bits(maker: &mut Maker) {
+    maker.send(&[WREN]);
+    maker.send(&[WRSR, 0xFF]);
+    maker.settle();
+    maker.send(&[RDSR, 0]);
+}
+
+fn reads_no_page(maker: &mut Maker) {
+    maker.send_at_page_and_lock(RDID, 0);
+}
+
+/// WEL stays and no cycle runs, so that a wait afterwards changes nothing either.
+fn writes_no_page(maker: &mut Maker) {
+    maker.send(&[WREN]);
+    maker.send_at_page_and_lock(WRID, 0x02);
+    maker.settle();
+    maker.send(&[RDSR, 0]);
+}
+
+/// Writes to both sides of where the upper quarter begins.
+fn protects_a_quarter(maker: &mut Maker) {
+    let first = maker.device.first_protected(0x04);
+    maker.set_status(0x04);
+    for address in [first, first - 1] {
+        maker.send(&[WREN]);
+        maker.send_at(WRITE, address, &[FIRST]);
+        maker.send(&[RDSR, 0]);
+    }
+    maker.settle();
+}
+
+/// With W low WREN is done. Device 7 stores SRWD and then no second WRSR; the others do neither.
+fn protect_low_and_status(maker: &mut Maker) {
+    maker.put(&[Event::Protect(false)]);
+    for bits in [0x80, 0x04] {
+        maker.send(&[WREN]);
+        maker.send(&[RDSR, 0]);
+        maker.send(&[WRSR, bits]);
+        maker.settle();
+    }
+    maker.send(&[RDSR, 0]);
+}
+
+/// W low stops the WRITE, but on device 7.
+fn protect_low_and_array(maker: &mut Maker) {
+    maker.put(&[Event::Protect(false)]);
+    maker.send(&[WREN]);
+    maker.send_at(WRITE, 0x22, &[FIRST]);
+    maker.send(&[RDSR, 0]);
+    maker.settle();
+    maker.send_at(READ, 0x22, &[0]);
+}
+
+/// A WRITE that lacks nothing is dropped.
+fn deselects_in_hold(maker: &mut Maker) {
+    maker.send(&[WREN]);
+    let bytes = maker.with_address(WRITE, 0x33);
+    let mut events = maker.selection(&[&bytes[..], &[FIRST]].concat());
+    events.pop();
+    maker.put(&events);
+    maker.put(&[HOLD, Event::Select(true), RELEASE]);
+    maker.send(&[RDSR, 0]);
 }

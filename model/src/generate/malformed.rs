@@ -1,6 +1,6 @@
 //! Ends of traces that are refused, reaching the numbers 6 to 9 and 11 of document 01 in every way.
 
-use super::commands::Maker;
+use super::commands::{Kind, Maker};
 use super::records_of;
 use crate::device::Device;
 use crate::trace::Event;
@@ -71,7 +71,8 @@ pub fn tail(device: &'static Device, which: usize) -> Vec<u8> {
     }
 }
 
-/// Ends what may run, starts a cycle of its kind, and cycles the power in it.
+/// Ends what may run, starts a cycle of its kind, and cycles the power in it. Where there is no identification page two
+/// of the kinds start none: power is taken after them, and refused in an array cycle that follows.
 fn power_in_cycle(device: &'static Device, which: usize) -> Vec<Event> {
     let mut maker = Maker::new(device, which as u64, 0);
     maker.calm();
@@ -85,6 +86,13 @@ fn power_in_cycle(device: &'static Device, which: usize) -> Vec<Event> {
         _ => maker.lid_command(true),
     };
     maker.send(&command.bytes);
+    let of_page = matches!(command.kind, Kind::Identification | Kind::Lock);
+    if of_page && !device.has_identification() {
+        maker.put(&[Event::Power]);
+        maker.enable();
+        let command = maker.write_command();
+        maker.send(&command.bytes);
+    }
     maker.put(&[Event::Wait(device.write_time - 1)]);
     if which >= 4 {
         maker.put(&[Event::Select(false)]);

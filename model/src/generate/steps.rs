@@ -129,7 +129,7 @@ impl Maker {
         self.look_after(&running);
     }
 
-    /// A command with a byte or bits less or more; its right length at times, but never LID's, which would lock.
+    /// A command with a byte or bits less or more; its right length at times, but never LID's where it would lock.
     fn length_step(&mut self) {
         self.calm();
         if self.random.once_in(4) {
@@ -155,7 +155,7 @@ impl Maker {
             whole + 8,
             whole + 16,
         ];
-        if command.kind != Kind::Lock {
+        if command.kind != Kind::Lock || !self.device.has_identification() {
             lengths.push(whole);
         }
         let bits = self.random.pick(&lengths);
@@ -173,7 +173,7 @@ impl Maker {
         let bits = self.random.pick(&[0x00, 0x80, 0x80, 0x84]);
         self.set_status(bits);
         let surely_inside = self.random.once_in(3);
-        let stops_lid = surely_inside && self.device.number == 1;
+        let stops_lid = surely_inside && self.device.has_one_address_byte();
         let command = match self.random.below(8) {
             0..=2 => self.wrsr_command(),
             3 => self.write_command(),

@@ -40,14 +40,15 @@ impl View {
 }
 
 /// Numbers of no device.
-const NO_DEVICES: [u8; 3] = [0, 5, 255];
+const NO_DEVICES: [u8; 3] = [0, 8, 255];
 
 /// The views of one device, then some with a number of no device, at its lengths and at none.
 pub fn views(device: &Device) -> Vec<View> {
     let (cells, page) = (device.cells, device.page);
-    // Among the wrong ones are those of a neighbour in the table, of the slice lent in its place, and of the latch.
+    // Among the wrong ones are those of a neighbour in the table, of the slice lent in its place, and of the latch. The
+    // right length of the identification page is one of two, and each is wrong where the other is right.
     let cell_counts = [cells, cells - 1, cells + 1, cells / 2, 2 * cells, page, 0];
-    let page_lengths = [page, page - 1, page + 1, 2 * page, cells, 0];
+    let page_lengths = [page, page - 1, page + 1, 2 * page, cells, 1, 0];
     let addresses = [
         0,
         1,

@@ -1,5 +1,7 @@
 //! Mistakes of the bench program (document 01, "Bench program"), made in what the right one prints.
 
+use std::ops::RangeInclusive;
+
 use crate::bench::{bench, BENCH_INPUT};
 use crate::device::{BP, SRWD};
 use crate::fault::Fault;
@@ -28,14 +30,23 @@ pub fn bench_wrongly(fault: Fault, input: &[u8]) -> String {
         Fault::BenchBodyBeforeKind if kind_is_wrong && input.len() < record_bytes(length) => {
             "end 6 --\n".into()
         }
-        Fault::BenchTakesLargeDevices if matches!(input.get(HEAD), Some(3 | 4)) => {
-            let mut other = input.to_vec();
-            other[HEAD] = 2;
-            bench(&other)
-        }
+        Fault::BenchTakesLargeDevices => with_device(input, 3..=4, 2),
+        Fault::BenchTakesSmallerDevices => with_device(input, 5..=7, 1),
         Fault::BenchTakesNoInput if input.is_empty() => "end 0 --\n".into(),
         _ => right,
     }
+}
+
+/// What the right one prints with another device in the place of these.
+fn with_device(input: &[u8], devices: RangeInclusive<u8>, other: u8) -> String {
+    let mut taken = input.to_vec();
+    if let Some(number) = taken
+        .get_mut(HEAD)
+        .filter(|number| devices.contains(number))
+    {
+        *number = other;
+    }
+    bench(&taken)
 }
 
 /// The status at the end without WEL and WIP.

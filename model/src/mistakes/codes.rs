@@ -1,8 +1,18 @@
 //! Mistakes about what is received: bits, codes, addresses and data bytes (document 01, "Instructions").
 
+use super::smaller::UNKNOWN_CODE;
 use super::Mistaken;
 use crate::fault::Fault;
 use crate::state::{Cycle, Instruction, State};
+
+/// The instruction that 82h or 83h is with the lock bit or without it.
+fn told_apart(instruction: Instruction, has_lock_bit: bool) -> Instruction {
+    match (instruction, has_lock_bit) {
+        (_, false) => instruction,
+        (Instruction::Rdid, true) => Instruction::Rdls,
+        (_, true) => Instruction::Lid,
+    }
+}
 
 impl Mistaken<'_> {
     /// Whether the rise of C that comes now completes a byte, and the byte that the right rules would receive.
@@ -37,34 +47,40 @@ impl Mistaken<'_> {
     }
 
     fn before_code(&mut self, code: u8) {
-        let on_device_1 = self.chip.device.number == 1;
-        let short = code & 0xF0 == 0;
-        let array = matches!(code, 0x0A | 0x0B);
+        if let Some(other) = self.misheard(code) {
+            self.substitute(other);
+        }
         let judged_before = matches!(
             self.fault,
             Fault::TurnedAwayJudgedAtSelectFall | Fault::TurnedAwayJudgedAtFirstBit
         );
         match self.fault {
-            Fault::Device1CodeBit3Counts if on_device_1 && short && code & 0x08 != 0 => {
-                self.substitute(0x00);
-            }
-            Fault::Device1Address8Ignored if on_device_1 && array => self.substitute(code & !0x08),
-            Fault::Device1IdentificationCodesLoose
-                if on_device_1 && matches!(code, 0x8A | 0x8B) =>
-            {
-                self.substitute(code & !0x08);
-            }
-            Fault::CodeBit3IgnoredEverywhere if !on_device_1 && short => {
-                self.substitute(code & !0x08);
-            }
             Fault::MarksNotCleared
             | Fault::MarksClearedOnlyWithWel
-            | Fault::MarksClearedForWriteOnly => self.marks_before = self.chip.marks.to_vec(),
+            | Fault::MarksClearedForWriteOnly
+            | Fault::SmallerWridLatches => self.marks_before = self.chip.marks.to_vec(),
             // The right rules shall find the cycle that has ended meanwhile.
             _ if judged_before && self.cycle_before_code && !self.chip.state.in_cycle() => {
                 self.chip.state.cycle = Cycle::Lock;
             }
             _ => {}
+        }
+    }
+
+    /// The code that a mistaken device takes this one for, or none where it takes it for what it is.
+    fn misheard(&self, code: u8) -> Option<u8> {
+        let has_one_address_byte = self.chip.device.has_one_address_byte();
+        match (self.fault, code) {
+            (Fault::Device1CodeBit3Counts, 0x08..=0x0F)
+            | (Fault::Device5And6ShortBit3Counts, 0x09 | 0x0C | 0x0D | 0x0E)
+            | (Fault::Device5And6ArrayBit3Counts, 0x0A | 0x0B) => Some(UNKNOWN_CODE),
+            (Fault::Device1Address8Ignored, 0x0A | 0x0B)
+            | (Fault::Device1IdentificationCodesLoose, 0x8A | 0x8B) => Some(code & !0x08),
+            (Fault::CodeBit3IgnoredEverywhere, 0x08..=0x0F) if !has_one_address_byte => {
+                Some(code & !0x08)
+            }
+            _ if self.stays_unknown(code) => Some(UNKNOWN_CODE),
+            _ => None,
         }
     }
 
@@ -131,7 +147,9 @@ impl Mistaken<'_> {
         let marks_kept = match self.fault {
             Fault::MarksNotCleared => true,
             Fault::MarksClearedOnlyWithWel => !state.write_enable_latch,
-            Fault::MarksClearedForWriteOnly => instruction == Instruction::Wrid,
+            Fault::MarksClearedForWriteOnly | Fault::SmallerWridLatches => {
+                instruction == Instruction::Wrid
+            }
             _ => false,
         };
         if marks_kept {
@@ -147,6 +165,9 @@ impl Mistaken<'_> {
             Fault::LatchDataCleared if uses_latch && !state.turned_away => self.chip.data.fill(0),
             Fault::LatchReusedInCycle if instruction == Instruction::Write => {
                 self.chip.marks.fill(0);
+            }
+            Fault::SmallerWridClearsMarks if instruction == Instruction::Wrid => {
+                state.instruction = Instruction::Unknown;
             }
             _ if state.in_cycle() => self.after_code_in_cycle(instruction),
             _ => {}
@@ -166,7 +187,7 @@ impl Mistaken<'_> {
             Instruction::Wrid | Instruction::Lid => (Fault::WridTakenInCycle, false),
             Instruction::Unknown => (Fault::UnknownTakenInCycle, false),
         };
-        if self.fault != fault {
+        if self.fault != fault && !self.is_believed_in_cycle(instruction) {
             return;
         }
         self.chip.state.turned_away = turned_away;
@@ -210,6 +231,10 @@ impl Mistaken<'_> {
                 self.chip.state.instruction = Instruction::Unknown;
             }
             Fault::AddressMaskOneBitShort => self.chip.state.address &= last >> 1,
+            // The byte before the address is the code.
+            Fault::Device5And6Address8IsTopBit if was.last_byte & 0x08 != 0 => {
+                self.chip.state.address |= last ^ last >> 1;
+            }
             _ => {}
         }
     }
@@ -218,22 +243,21 @@ impl Mistaken<'_> {
         let device = self.chip.device;
         let address = self.wide_address(was) & (device.cells - 1);
         let other_bits = address & !(device.page - 1) & !device.lock_bit();
-        let lower_bit = address & device.lock_bit() >> 1;
+        let has_lower_bit = address & device.lock_bit() >> 1 != 0;
         match self.fault {
             Fault::IdentificationHighBitsCount if other_bits != 0 => {
                 self.chip.state.instruction = Instruction::Unknown;
             }
-            Fault::Device1LockBitIsTen if device.number == 1 => {
+            Fault::Device1LockBitIsTen => {
                 self.chip.state.instruction = was.instruction;
             }
             Fault::LockBitOneLower => {
-                self.chip.state.instruction = match (was.instruction, lower_bit) {
-                    (instruction, 0) => instruction,
-                    (Instruction::Rdid, _) => Instruction::Rdls,
-                    _ => Instruction::Lid,
-                };
+                self.chip.state.instruction = told_apart(was.instruction, has_lower_bit);
             }
-            _ => {}
+            _ => {
+                let has_lock_bit = self.wide_address(was) & device.lock_bit() != 0;
+                self.believe_or_forget(told_apart(was.instruction, has_lock_bit));
+            }
         }
     }
 
@@ -243,6 +267,9 @@ impl Mistaken<'_> {
         match self.fault {
             Fault::PageRollsIntoNext => {
                 state.address = (was.address + 1) & (self.chip.device.cells - 1);
+            }
+            Fault::Device5And6PageIs32 => {
+                state.address = was.address & !31 | (was.address + 1) & 31;
             }
             Fault::PageRollsOneEarly if (was.address + 1) & in_page == in_page => {
                 state.address = was.address & !in_page;

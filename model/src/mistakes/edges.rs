@@ -88,9 +88,7 @@ impl Mistaken<'_> {
             Fault::ProtectNotSeenInHold if was.held => {
                 state.protect_seen_low = was.protect_seen_low;
             }
-            Fault::ProtectClearsWel if self.chip.device.number == 1 => {
-                state.write_enable_latch = false;
-            }
+            Fault::ProtectClearsWel => state.write_enable_latch = false,
             _ => {}
         }
     }
@@ -163,6 +161,12 @@ impl Mistaken<'_> {
             (Fault::WriteTimeOneShort, _) => state.time_left -= 1,
             (Fault::WriteTimeOneLong, _) => state.time_left += 1,
             (Fault::Device3WriteTimeAsOthers, _) => state.time_left = 5000,
+            (Fault::SmallerWriteTimeIs4000, _) => state.time_left = 4000,
+            (Fault::SmallerWridDoneAtOnce, Cycle::Identification) => {
+                state.cycle = Cycle::None;
+                state.time_left = 0;
+                state.write_enable_latch = false;
+            }
             (Fault::CellsChangeAtSelectRise, Cycle::Array)
             | (Fault::IdentificationChangesAtSelectRise, Cycle::Identification)
             | (Fault::StatusChangesAtSelectRise, Cycle::Status)

@@ -1,7 +1,7 @@
 //! Mistakes about what is judged at the rise of S (document 01, "Instructions").
 
 use super::Mistaken;
-use crate::device::{BP, SRWD};
+use crate::device::{BP, DEVICES, SRWD};
 use crate::fault::Fault;
 use crate::state::{Cycle, Instruction, State};
 
@@ -19,8 +19,12 @@ impl Mistaken<'_> {
         match self.fault {
             Fault::HeldCommandJudged => state.held = false,
             Fault::HeldWithHoldHighJudged if state.hold => state.held = false,
+            Fault::Device7HeldWriteJudged if state.instruction == Instruction::Write => {
+                state.held = false;
+            }
             Fault::HoldPinDropsCommand if !state.hold => state.held = true,
             Fault::ProtectSampledAtEnd => state.protect_seen_low = !state.protect,
+            _ if self.is_over_before_select_rise() => self.drop_command(),
             _ => {}
         }
         match self.chip.state.instruction {
@@ -41,11 +45,10 @@ impl Mistaken<'_> {
 
     fn before_wren(&mut self) {
         let state = &mut *self.chip.state;
-        let guarded = self.chip.device.number == 1 && state.protect_seen_low;
         match self.fault {
             Fault::WrenTakesMoreBytes => state.whole_bytes = state.whole_bytes.min(1),
             Fault::WrenTakesMoreBits => state.bits = 0,
-            Fault::WrenStoppedByProtect if guarded => self.drop_command(),
+            Fault::WrenStoppedByProtect if state.protect_seen_low => self.drop_command(),
             _ => {}
         }
     }
@@ -60,15 +63,13 @@ impl Mistaken<'_> {
     }
 
     fn before_wrsr(&mut self) {
-        let on_device_1 = self.chip.device.number == 1;
         let state = &mut *self.chip.state;
         match self.fault {
             Fault::WrsrWithoutWel => state.write_enable_latch = true,
             Fault::WrsrTakesMoreBytes => state.whole_bytes = state.whole_bytes.min(2),
             Fault::WrsrTakesMoreBits => state.bits = 0,
             Fault::WrsrTakesLess => state.whole_bytes = state.whole_bytes.max(2),
-            Fault::WrsrIgnoresProtect if !on_device_1 => state.protect_seen_low = false,
-            Fault::WrsrIgnoresProtectOnDevice1 if on_device_1 => state.protect_seen_low = false,
+            Fault::WrsrIgnoresProtect => state.protect_seen_low = false,
             Fault::WrsrStoppedWithoutSrwd if state.protect_seen_low => self.drop_command(),
             _ => {}
         }
@@ -103,6 +104,7 @@ impl Mistaken<'_> {
             Fault::ProtectionOnePageLess => Some(address >= first + device.page),
             Fault::ProtectionOnePageMore => Some(address + device.page >= first),
             Fault::ProtectionBitsSwapped => Some(device.is_protected(swapped, address)),
+            Fault::Device5And6ProtectionAsDevice1 => Some(DEVICES[0].is_protected(status, address)),
             Fault::ProtectionFromBottom if partly => Some(address < device.cells - first),
             _ => None,
         }
@@ -177,6 +179,7 @@ impl Mistaken<'_> {
         let stored = match self.fault {
             Fault::WrsrStoresOtherBits => self.chip.device.status_bits() | 0x70,
             Fault::WrsrStoresSrwdOnDevice1 => SRWD | BP,
+            Fault::Device7SrwdMissing => BP,
             _ => return,
         };
         if state.cycle == Cycle::Status {

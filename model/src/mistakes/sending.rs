@@ -45,7 +45,7 @@ impl Mistaken<'_> {
             self.after_byte_taken(was);
         }
         let first = self.chip.is_first_byte();
-        let page = self.chip.device.page;
+        let page = self.chip.device.identification;
         let state = &mut *self.chip.state;
         let silent = match (self.fault, state.instruction) {
             (Fault::ReadStopsAtLastCell, Instruction::Read) => state.address == 0 && !first,
@@ -60,8 +60,7 @@ impl Mistaken<'_> {
 
     fn after_byte_taken(&mut self, was: &State) {
         let first = self.chip.is_first_byte();
-        let page = self.chip.device.page;
-        let on_device_1 = self.chip.device.number == 1;
+        let page = self.chip.device.identification;
         let state = &mut *self.chip.state;
         match (self.fault, state.instruction) {
             (Fault::ByteTakenAtLastRise, _) => {
@@ -79,9 +78,7 @@ impl Mistaken<'_> {
             }
             (Fault::RdsrWithoutWip, Instruction::Rdsr) => state.sent_byte &= !0x01,
             (Fault::RdsrWithoutWel, Instruction::Rdsr) => state.sent_byte &= !0x02,
-            (Fault::Device1UpperBitsOne, Instruction::Rdsr) if on_device_1 => {
-                state.sent_byte |= 0xF0;
-            }
+            (Fault::Device1UpperBitsOne, Instruction::Rdsr) => state.sent_byte |= 0xF0,
             _ => return,
         }
         self.chip.show_bit();

@@ -1,4 +1,4 @@
-//! Mistakes of a view (document 02, W-201): the right one asked for something else, or its answer changed.
+//! Mistakes of a view (document 02, W-201 and W-202): the right one asked for something else, or its answer changed.
 
 use crate::calls::{view, Region};
 use crate::device::{device, Device};
@@ -64,7 +64,7 @@ impl<'a> Asked<'a> {
     /// The number that a wrong order of the tests gives, or a test that is not due.
     fn judged_wrongly(self, fault: Fault, row: &Device) -> Option<Number> {
         let cells_wrong = self.cells.len() != row.cells;
-        let page_wrong = self.identification.len() != row.page;
+        let page_wrong = self.identification.len() != row.identification;
         let past = self.address >= row.cells;
         match (fault, self.region) {
             (Fault::ViewThreeBeforeTwo, _)
@@ -102,11 +102,48 @@ impl<'a> Asked<'a> {
                 (Number::Done, &self.cells[self.address..end])
             }
             (Fault::ViewShowsAllCells, Region::Cells, Number::Done) => (Number::Done, self.cells),
-            (Fault::ViewIdentificationFromAddress, Region::Identification, Number::Done) => (
-                Number::Done,
-                &self.identification[self.address % row.page..],
-            ),
+            (Fault::ViewIdentificationFromAddress, Region::Identification, Number::Done) => {
+                let place = self.address.checked_rem(row.identification);
+                (Number::Done, &self.identification[place.unwrap_or(0)..])
+            }
+            _ if !row.has_identification() => self.shown_without_page(fault, row),
             _ => right,
+        }
+    }
+
+    /// The mistakes of devices without an identification page (document 02, W-202).
+    fn shown_without_page(self, fault: Fault, row: &Device) -> (Number, &'a [u8]) {
+        let right = self.right();
+        match (fault, self.region, right.0) {
+            (Fault::ViewSmallerUnknown, _, _) => (Number::Device, &[]),
+            (Fault::ViewSmallerAsksForPage, _, Number::Done | Number::Address) => {
+                (Number::Identification, &[])
+            }
+            (Fault::ViewSmallerAsksForPage, _, Number::Identification)
+                if self.identification.len() == row.page =>
+            {
+                self.of_any_length()
+            }
+            (Fault::ViewSmallerTakesAnyLength, _, Number::Identification) => self.of_any_length(),
+            (Fault::ViewSmallerIsRefused, Region::Identification, Number::Done) => {
+                (Number::Identification, &[])
+            }
+            (Fault::ViewSmallerShowsCells, Region::Identification, Number::Done) => {
+                (Number::Done, &self.cells[..row.page])
+            }
+            _ => right,
+        }
+    }
+
+    /// A view of a device without an identification page that takes the bytes lent for one, as many as there are.
+    fn of_any_length(self) -> (Number, &'a [u8]) {
+        let without = Asked {
+            identification: &[],
+            ..self
+        };
+        match self.region {
+            Region::Cells => without.right(),
+            Region::Identification => (without.right().0, self.identification),
         }
     }
 
@@ -114,16 +151,18 @@ impl<'a> Asked<'a> {
     fn unasked_unchecked(self, row: &Device) -> (Number, &'a [u8]) {
         let right = self.right();
         match (self.region, right.0) {
-            // The cells have passed, so the right view can be lent a page of them for the slice that it refused.
+            // The cells have passed, so the right view can be lent some of them for the slice that it refused.
             (Region::Cells, Number::Identification) => {
-                let identification = &self.cells[..row.page];
+                let identification = &self.cells[..row.identification];
                 Asked {
                     identification,
                     ..self
                 }
                 .right()
             }
-            (Region::Identification, Number::Cells) if self.identification.len() == row.page => {
+            (Region::Identification, Number::Cells)
+                if self.identification.len() == row.identification =>
+            {
                 (Number::Done, self.identification)
             }
             (Region::Identification, Number::Cells) => (Number::Identification, &[]),

@@ -22,7 +22,7 @@ impl Board {
     pub fn new(number: u8) -> Board {
         let device = device(number).expect("a device of the table");
         let mut cells = vec![0; device.cells];
-        let mut identification = vec![0; device.page];
+        let mut identification = vec![0; device.identification];
         let mut latch = vec![0; 2 * device.page];
         let (done, state) = prepare(number, &mut cells, &mut identification, &mut latch);
         assert_eq!(done, Number::Done);

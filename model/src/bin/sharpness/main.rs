@@ -1,11 +1,12 @@
 //! `sharpness [SEEDS]` shows that generated traces notice mistakes: it runs the model with each named fault beside
 //! the right one, on short traces of all profiles and devices, and prints where each first shows. Mistakes of the bench
-//! program and of a view, which no trace can show, are held to inputs and views of their own.
+//! program, of a view, of judging a state and of loading one, which no trace can show, are held to inputs of their own.
 //!
 //! `sharpness --stored DIR` does so with the vectors that `store` wrote to DIR.
 //!
 //! A fault that nothing shows ends the program with status 1, unless a reason for it is given here.
 
+mod states;
 mod stored;
 mod views;
 
@@ -15,7 +16,9 @@ use std::rc::Rc;
 use m95_model::generate::{
     bench_input, odd_bench_input, trace_with_tail, Profile, Random, ODD_BENCH_INPUTS, TAILS,
 };
-use m95_model::{bench, bench_wrongly, play_wrongly, Contents, Device, Fault, Played, DEVICES};
+use m95_model::{
+    bench, bench_wrongly, play_wrongly, Contents, Device, Fault, Played, BENCH_DEVICES, DEVICES,
+};
 use views::Views;
 
 const RECORDS: usize = 3_000;
@@ -71,9 +74,11 @@ fn show_generated(seeds: u64) -> usize {
         "fault", "profile", "device", "by", "records", "traces"
     );
     let (inputs, views) = (bench_inputs(seeds), Views::new());
-    let is_seen = |fault: Fault| match (fault.is_of_bench(), fault.is_of_view()) {
-        (true, _) => show_bench(fault, &inputs),
-        (_, true) => views.show(fault),
+    let is_seen = |fault: Fault| match fault {
+        _ if fault.is_of_bench() => show_bench(fault, &inputs),
+        _ if fault.is_of_view() => views.show(fault),
+        _ if fault.is_of_state() => states::show_state(fault),
+        _ if fault.is_of_load() => states::show_load(fault),
         _ => show(fault, &cases),
     };
     let missed = Fault::ALL.iter().filter(|fault| !is_seen(**fault)).count();
@@ -226,7 +231,8 @@ fn difference(
 fn bench_inputs(seeds: u64) -> Vec<Vec<u8>> {
     let mut inputs: Vec<Vec<u8>> = (0..ODD_BENCH_INPUTS).map(odd_bench_input).collect();
     for seed in 0..seeds {
-        for device in &DEVICES[..2] {
+        let taken = |device: &&Device| BENCH_DEVICES.contains(&device.number);
+        for device in DEVICES.iter().filter(taken) {
             for profile in [Profile::Mixed, Profile::Malformed] {
                 let which = (seed as usize * 7 + usize::from(device.number)) % TAILS;
                 inputs.push(bench_input(profile, device, seed, which));

@@ -13,15 +13,19 @@ const BEYOND: &str =
     "only the answer room past the last answer shows it, which a vector does not hold";
 const LIMIT: &str = "only the limit shows it, which a vector never reaches";
 const VIEW: &str = "only a view shows it, which a vector does not hold";
+const STATE: &str = "only a state that no trace reaches shows it, which a vector does not hold";
+const LOAD: &str = "only a load shows it, which a vector does not start with";
 const BENCH: &str = "only the bench program shows it, which a vector does not run";
 
 /// Faults that no vector can notice, and why.
-const UNNOTICED: [(Fault, &str); 11] = [
+const UNNOTICED: [(Fault, &str); 13] = [
     (Fault::CycleEndClearsMarks, LATCH),
     (Fault::MarksClearedOnlyWithWel, LATCH),
     (Fault::LatchDataCleared, LATCH),
     (Fault::LatchedOnlyWithWel, LATCH),
     (Fault::LidByteLatched, LATCH),
+    (Fault::SmallerWridClearsMarks, LATCH),
+    (Fault::SmallerWridLatches, LATCH),
     (Fault::RoomJudgedBeforePin, ROOM),
     (Fault::PowerJudgedBeforeRoom, ROOM),
     (Fault::RefusalWritesAnswer, BEYOND),
@@ -73,9 +77,11 @@ fn reason(fault: Fault) -> Option<&'static str> {
 
 /// The reason for the faults of all that is not a trace.
 fn elsewhere(fault: Fault) -> Option<&'static str> {
-    match (fault.is_of_bench(), fault.is_of_view()) {
-        (true, _) => Some(BENCH),
-        (_, true) => Some(VIEW),
+    match fault {
+        _ if fault.is_of_bench() => Some(BENCH),
+        _ if fault.is_of_view() => Some(VIEW),
+        _ if fault.is_of_state() => Some(STATE),
+        _ if fault.is_of_load() => Some(LOAD),
         _ => None,
     }
 }
