@@ -1,12 +1,12 @@
 /*
  * m95.h: the bench model of ST's small SPI memories for callers in C. Link target/native/libm95_c.a, which clients/build makes.
  *
- * A device is its number: 1 M95040-DF, 2 M95128-D, 3 M95M01, 4 M95M02. Its whole condition stands in four buffers, which the caller
- * owns and lends to each call, each as a pointer and its length in bytes:
+ * A device is its number: 1 M95040-DF, 2 M95128-D, 3 M95M01, 4 M95M02, 5 M95010, 6 M95020, 7 M95128. Its whole condition stands in four
+ * buffers, which the caller owns and lends to each call, each as a pointer and its length in bytes:
  *
  *     state           M95_STATE_BYTES bytes, made by m95_prepare or m95_load; what they mean is the library's business
  *     cells           m95_cells(device) bytes
- *     identification  m95_page(device) bytes
+ *     identification  m95_identification(device) bytes: a page, or on 5, 6 and 7, which have no such page, none: NULL and 0 will do
  *     latch           twice m95_page(device) bytes
  *
  * They may be copied, and saved and lent again later to a library of the same version (m95_version). It keeps nothing of its own between
@@ -43,7 +43,7 @@ extern "C" {
  */
 enum {
     M95_DONE = 0,
-    M95_REFUSED_DEVICE = 1,         /* the device is not 1 to 4 */
+    M95_REFUSED_DEVICE = 1,         /* the device is not 1 to 7 */
     M95_REFUSED_CELLS = 2,          /* cells of a wrong length */
     M95_REFUSED_IDENTIFICATION = 3, /* identification page of a wrong length */
     M95_REFUSED_LATCH = 4,          /* latch of a wrong length */
@@ -79,9 +79,13 @@ enum { M95_REGION_CELLS = 0, M95_REGION_IDENTIFICATION = 1 };
  */
 size_t m95_version(void);
 
-/* The cells of a device and the bytes of a page of it; 0 for a number that is no device's. */
+/*
+ * The cells of a device, the bytes of a page of it, and those of its identification page, which are 0 where it has none; 0 for a number that
+ * is no device's.
+ */
 size_t m95_cells(size_t device);
 size_t m95_page(size_t device);
+size_t m95_identification(size_t device);
 
 /* What m95_event and m95_run refuse the buffers of a device with: 1 to 5, or 0. */
 size_t m95_refusal(size_t device,
@@ -102,9 +106,9 @@ size_t m95_prepare(size_t device,
 
 /*
  * Puts the state of a device that has just got its power and has stored this before: status bits, as the status register has them, which
- * are 3 and 2, and 7 where there is SRWD; and the lock, 0 or 1. All else is as m95_prepare leaves it: the pins, nothing selected, WEL 0 and
- * no cycle. 1; then 5 where the state's room is not M95_STATE_BYTES long, where the status has any other bit set, or where the lock is any
- * other number; or 0. Refused, it leaves the room as it was.
+ * are 3 and 2, and 7 where there is SRWD; and the lock, 0 or, where there is an identification page, 1. All else is as m95_prepare leaves
+ * it: the pins, nothing selected, WEL 0 and no cycle. 1; then 5 where the state's room is not M95_STATE_BYTES long, where the status has any
+ * other bit set, or where the lock is any other number; or 0. Refused, it leaves the room as it was.
  *
  * Before a chip is saved no cycle should run, which bit 0 of m95_status_byte tells: what the cycle writes is in no buffer before its end,
  * and a long M95_WAIT ends it.
@@ -153,7 +157,7 @@ size_t m95_stored(const uint8_t *state, size_t state_length, size_t *status, siz
 /*
  * A view of a region: where its part starts, and how long it is. M95_REGION_CELLS shows the page that holds the address, which is at
  * cells + start; M95_REGION_IDENTIFICATION shows all of the identification page, whatever the address, which is at identification + start,
- * and that start is 0. Both buffers are judged whatever the region: 1, 2, 3; then 7 for a number that is no region's; then, for the cells
+ * and that start is 0; so is the length where the device has no such page. Both buffers are judged whatever the region: 1, 2, 3; then 7 for a number that is no region's; then, for the cells
  * alone, 13 for an address past them; or 0. Refused, start and length are 0.
  */
 size_t m95_view(size_t device, size_t region,

@@ -23,7 +23,7 @@ struct Chip {
     Bytes state, cells, identification, latch;
 
     explicit Chip(std::size_t number)
-        : device(number), state(M95_STATE_BYTES), cells(m95_cells(number)), identification(m95_page(number)), latch(2 * m95_page(number)) {}
+        : device(number), state(M95_STATE_BYTES), cells(m95_cells(number)), identification(m95_identification(number)), latch(2 * m95_page(number)) {}
 
     std::size_t refusal() const {
         return m95_refusal(device, state.data(), state.size(), cells.data(), cells.size(), identification.data(), identification.size(),
@@ -64,9 +64,10 @@ void put_command(Bytes &trace, const Bytes &bytes, std::size_t more) {
     put_pin(trace, M95_S + 1);
 }
 
-// A code, and an address of 0 in the device's address bytes, of which devices 3 and 4 have three.
+// A code, and an address of 0 in the device's address bytes.
 Bytes at_zero(std::size_t device, uint8_t code) {
-    Bytes bytes(1 + (device < 3 ? device : 3), 0);
+    const std::size_t address[] = {0, 1, 2, 3, 3, 1, 1, 2};
+    Bytes bytes(1 + address[device], 0);
     bytes[0] = code;
     return bytes;
 }
@@ -89,10 +90,11 @@ void write_and_read(Chip &chip) {
     expect(read == 0xA5 && chip.cells[0] == 0xA5, "the byte is stored and read", chip.device);
 }
 
-// Vectors of no bytes, one at a time and then all of them.
+// Vectors of no bytes, one at a time and then all of them. For an identification page that the device has not, one is right.
 void lend_nothing(const Chip &good) {
-    const std::size_t numbers[] = {M95_REFUSED_STATE, M95_REFUSED_CELLS, M95_REFUSED_IDENTIFICATION, M95_REFUSED_LATCH, M95_REFUSED_CELLS};
-    const std::size_t views[] = {M95_DONE, M95_REFUSED_CELLS, M95_REFUSED_IDENTIFICATION, M95_DONE, M95_REFUSED_CELLS};
+    const std::size_t page = good.identification.empty() ? M95_DONE : M95_REFUSED_IDENTIFICATION;
+    const std::size_t numbers[] = {M95_REFUSED_STATE, M95_REFUSED_CELLS, page, M95_REFUSED_LATCH, M95_REFUSED_CELLS};
+    const std::size_t views[] = {M95_DONE, M95_REFUSED_CELLS, page, M95_DONE, M95_REFUSED_CELLS};
     for (std::size_t none = 0; none <= 4; none++) {
         Chip chip = good;
         Bytes *const buffers[] = {&chip.state, &chip.cells, &chip.identification, &chip.latch};
@@ -101,7 +103,7 @@ void lend_nothing(const Chip &good) {
                 *buffers[k] = Bytes();
             }
         }
-        expect(chip.refusal() == numbers[none] && chip.prepare() == numbers[none], "an empty vector is refused", chip.device);
+        expect(chip.refusal() == numbers[none] && chip.prepare() == numbers[none], "an empty vector is refused, but for one that is right", chip.device);
         expect(chip.view(M95_REGION_CELLS) == views[none], "a view of the cells judges both vectors", chip.device);
         expect(chip.view(M95_REGION_IDENTIFICATION) == views[none], "and so does one of the identification page", chip.device);
     }
@@ -127,7 +129,7 @@ void traces_of_nothing(Chip &chip) {
 } // namespace
 
 int main() {
-    for (std::size_t device = 1; device <= 4; device++) {
+    for (std::size_t device = 1; device <= 7; device++) {
         Chip chip(device);
         expect(chip.prepare() == M95_DONE && chip.refusal() == M95_DONE, "a device is prepared", device);
         write_and_read(chip);

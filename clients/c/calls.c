@@ -6,13 +6,15 @@
 #include "saved.h"
 
 static void sizes(void) {
-    static const size_t cells[] = {0, 512, 16384, 131072, 262144, 0};
-    static const size_t pages[] = {0, 16, 64, 256, 256, 0};
-    for (size_t device = 0; device <= 5; device++) {
+    static const size_t cells[] = {0, 512, 16384, 131072, 262144, 128, 256, 16384, 0};
+    static const size_t pages[] = {0, 16, 64, 256, 256, 16, 16, 64, 0};
+    static const size_t identifications[] = {0, 16, 64, 256, 256, 0, 0, 0, 0};
+    for (size_t device = 0; device <= 8; device++) {
         expect(m95_cells(device) == cells[device], "cells of a device", device);
         expect(m95_page(device) == pages[device], "page of a device", device);
+        expect(m95_identification(device) == identifications[device], "identification page of a device", device);
     }
-    expect(m95_cells(257) == 0 && m95_page((size_t)1 << 32 | 1) == 0, "a large number is no device's", 257);
+    expect(m95_cells(257) == 0 && m95_page((size_t)1 << 32 | 1) == 0 && m95_identification(257) == 0, "a large number is no device's", 257);
 }
 
 /* 1 to 5 in their order: each fault alone, and with all that come after it. */
@@ -49,12 +51,12 @@ static void refused_buffers(void) {
     memset(&chip.state, 0, sizeof chip.state);
     chip.latch[64] = 0;
     note();
-    expect(m95_prepare(7, LENT) == M95_REFUSED_DEVICE, "preparing no device", 7);
+    expect(m95_prepare(8, LENT) == M95_REFUSED_DEVICE, "preparing no device", 8);
     memset(before.state, 0, sizeof before.state);
-    expect(memcmp(chip.state, before.state, sizeof chip.state) != 0, "the state of refused preparing", 7);
+    expect(memcmp(chip.state, before.state, sizeof chip.state) != 0, "the state of refused preparing", 8);
     memcpy(before.state, chip.state, sizeof chip.state);
-    expect(is_as_before(), "the other buffers of refused preparing", 7);
-    expect(m95_refusal(2, LENT) == M95_DONE, "refused preparing gives a prepared state", 7);
+    expect(is_as_before(), "the other buffers of refused preparing", 8);
+    expect(m95_refusal(2, LENT) == M95_DONE, "refused preparing gives a prepared state", 8);
 }
 
 /*
@@ -65,13 +67,15 @@ enum { NULLS = 6 };
 
 /* Views of both regions with NULL for the cells, for the identification page, or for both. */
 static void null_views(size_t device, int no_cells, int no_page) {
-    size_t number = no_cells ? M95_REFUSED_CELLS : no_page ? M95_REFUSED_IDENTIFICATION : M95_DONE;
+    int is_short = no_page && m95_identification(device) > 0;
+    size_t number = no_cells ? M95_REFUSED_CELLS : is_short ? M95_REFUSED_IDENTIFICATION : M95_DONE;
     for (size_t region = M95_REGION_CELLS; region <= M95_REGION_IDENTIFICATION; region++) {
         size_t start = 9, length = 9;
         expect(m95_view(device, region, no_cells ? NULL : chip.cells, no_cells ? 0 : m95_cells(device), no_page ? NULL : chip.identification,
-                        no_page ? 0 : m95_page(device), 0, &start, &length) == number,
+                        no_page ? 0 : m95_identification(device), 0, &start, &length) == number,
                "a view with NULL", region);
-        expect(start == 0 && length == (number == M95_DONE ? m95_page(device) : 0), "what it shows", region);
+        size_t whole = region == M95_REGION_CELLS ? m95_page(device) : m95_identification(device);
+        expect(start == 0 && length == (number == M95_DONE ? whole : 0), "what it shows", region);
     }
 }
 
@@ -84,10 +88,13 @@ static void null_buffers(size_t device) {
     chip.cells[3] = chip.identification[5] = chip.latch[7] = 0x5A;
     note();
     for (size_t none = 0; none <= NULLS; none++) {
+        if (none == 2 && m95_identification(device) == 0) {
+            continue; /* Nothing is missing there: no_page() has it. */
+        }
 #define GIVEN(place, pointer, length) none == place || none == NULLS ? NULL : (pointer), none == place || none == NULLS ? 0 : (length)
 #define NOT_ALL                                                                                   \
     GIVEN(0, chip.state, sizeof chip.state), GIVEN(1, chip.cells, m95_cells(device)),             \
-        GIVEN(2, chip.identification, m95_page(device)), GIVEN(3, chip.latch, 2 * m95_page(device))
+        GIVEN(2, chip.identification, m95_identification(device)), GIVEN(3, chip.latch, 2 * m95_page(device))
         size_t number = none == 4 || none == 5 ? M95_DONE : numbers[none], answer = 9, taken = 9, done = 9;
         expect(m95_refusal(device, NOT_ALL) == number, "refusal with NULL", none);
         expect(m95_event(device, NOT_ALL, M95_WAIT, 0, &answer) == number && answer == M95_Z, "an event with NULL", none);
@@ -105,7 +112,7 @@ static void null_buffers(size_t device) {
 /* The calls that take one buffer, and every call for no device with nothing at all. */
 static void nulls(void) {
     size_t answer = 9, first = 9, second = 9;
-    for (size_t device = 1; device <= 4; device++) {
+    for (size_t device = 1; device <= 7; device++) {
         null_buffers(device);
         expect(m95_load(device, NULL, 0, 0, 0) == M95_REFUSED_STATE, "loading into NULL", device);
     }
@@ -118,6 +125,103 @@ static void nulls(void) {
     expect(m95_event(0, NOTHING, M95_WAIT, 0, &answer) == M95_REFUSED_DEVICE && answer == M95_Z, "an event of nothing", answer);
     expect(m95_run(0, NOTHING, NULL, 0, NULL, 0, 1, &first, &second) == M95_REFUSED_DEVICE, "a trace of nothing", 0);
     expect(m95_view(0, M95_REGION_CELLS, NULL, 0, NULL, 0, 0, &first, &second) == M95_REFUSED_DEVICE, "a view of nothing", 0);
+}
+
+/* The chip's buffers with this for the identification page. */
+#define LENT_WITH(identification, length) \
+    chip.state, sizeof chip.state, chip.cells, m95_cells(chip.device), identification, length, chip.latch, 2 * m95_page(chip.device)
+
+/* Devices 5 to 7 have no identification page: NULL does for it in every call, and a byte of it, or a page, gets 3. */
+static void no_page(void) {
+    static const uint8_t record[] = {3, 0, M95_SET_PIN, 0, M95_S + 1};
+    for (size_t device = 5; device <= 7; device++) {
+        size_t answer = 9, taken = 9, done = 9, start = 9, length = 9;
+        uint8_t answers[1] = {7};
+        prepare(device);
+        expect(m95_prepare(device, LENT_WITH(NULL, 0)) == M95_DONE, "preparing without a page", device);
+        expect(m95_refusal(device, LENT_WITH(NULL, 0)) == M95_DONE, "refusal without a page", device);
+        expect(m95_event(device, LENT_WITH(NULL, 0), M95_WAIT, 1, &answer) == M95_DONE && answer == M95_Z, "an event without a page", device);
+        expect(m95_run(device, LENT_WITH(NULL, 0), record, sizeof record, answers, 1, 1, &taken, &done) == M95_DONE && done == 1,
+               "a trace without a page", device);
+        null_views(device, 0, 1);
+        note();
+        for (size_t page = 1; page <= m95_page(device); page += m95_page(device) - 1) {
+            expect(m95_prepare(device, LENT_WITH(chip.identification, page)) == M95_REFUSED_IDENTIFICATION, "preparing with a page", page);
+            expect(m95_refusal(device, LENT_WITH(chip.identification, page)) == M95_REFUSED_IDENTIFICATION, "refusal with a page", page);
+            expect(m95_event(device, LENT_WITH(chip.identification, page), M95_WAIT, 1, &answer) == M95_REFUSED_IDENTIFICATION,
+                   "an event with a page", page);
+            expect(m95_run(device, LENT_WITH(chip.identification, page), record, sizeof record, answers, 1, 1, &taken, &done)
+                       == M95_REFUSED_IDENTIFICATION,
+                   "a trace with a page", page);
+            expect(m95_view(device, M95_REGION_IDENTIFICATION, chip.cells, m95_cells(device), chip.identification, page, 0, &start, &length)
+                       == M95_REFUSED_IDENTIFICATION,
+                   "a view with a page", page);
+        }
+        expect(is_as_before(), "a page that is refused leaves the buffers", device);
+    }
+}
+
+/* The state of an M95128-D on an M95128, which has as many cells: what is of the page there is not sound here, selected or not. */
+static void other_state(size_t number, const char *what) {
+    chip.device = 7;
+    expect(m95_refusal(7, LENT) == number, what, number);
+    chip.device = 2;
+}
+
+static void of_the_page(void) {
+    prepare(2);
+    COMMAND(0x03, 0x00, 0x00);
+    other_state(M95_DONE, "READ left over");
+    COMMAND(0x83, 0x00, 0x00);
+    other_state(M95_REFUSED_STATE, "RDID left over");
+    COMMAND(0x83, 0x04, 0x00);
+    other_state(M95_REFUSED_STATE, "RDLS left over");
+    COMMAND(0x82, 0x00, 0x00);
+    other_state(M95_REFUSED_STATE, "WRID left over");
+    COMMAND(0x82, 0x04, 0x00);
+    other_state(M95_REFUSED_STATE, "LID left over");
+    COMMAND(0x06);
+    COMMAND(0x82, 0x00, 0x00, 0x5A);
+    COMMAND(0x05);
+    other_state(M95_REFUSED_STATE, "an identification cycle");
+    event(M95_WAIT, 5000);
+    other_state(M95_DONE, "an identification page that was written");
+    COMMAND(0x06);
+    COMMAND(0x82, 0x04, 0x00, 0x02);
+    COMMAND(0x05);
+    other_state(M95_REFUSED_STATE, "a lock cycle");
+    event(M95_WAIT, 5000);
+    other_state(M95_REFUSED_STATE, "a lock");
+}
+
+/* Codes and addresses of the smaller boards, as document 02 has them. */
+static void smaller(void) {
+    for (size_t device = 5; device <= 6; device++) {
+        prepare(device);
+        COMMAND(0x0E);
+        expect(status() == 0x02, "0Eh is WREN", device);
+        COMMAND(0x0A, 0x7E, 0x55);
+        event(M95_WAIT, 5000);
+        expect(chip.cells[0x7E] == 0x55, "0Ah is WRITE", device);
+        COMMAND(0x06);
+        COMMAND(0x02, 0x80, 0x66);
+        event(M95_WAIT, 5000);
+        expect(chip.cells[device == 5 ? 0x00 : 0x80] == 0x66, "the cell of 80h", device);
+        set_pin(M95_W, 0);
+        COMMAND(0x06);
+        COMMAND(0x01, 0x0C);
+        COMMAND(0x02, 0x05, 0x66);
+        expect(status() == 0x02 && chip.cells[5] == 0xFF, "W low stops WRSR and WRITE, and not WREN", device);
+    }
+    prepare(7);
+    COMMAND(0x06);
+    COMMAND(0x82, 0x00, 0x00, 0x5A);
+    COMMAND(0x82, 0x04, 0x00, 0x02);
+    expect(status() == 0x02, "82h starts nothing", status());
+    set_pin(M95_S, 0);
+    bits(0x830400, 24);
+    expect(bit(0) == M95_Z, "83h sends nothing", 7);
+    set_pin(M95_S, 1);
 }
 
 /* Every value of every byte of a state, and many states of chance: a state or 5, and then nothing changes. */
@@ -306,6 +410,8 @@ static void views(void) {
     view(1, PAGE, 512, 16, 40, M95_DONE, 0, 16);
     view(4, PAGE, MOST_CELLS, MOST_PAGE, SIZE_MAX, M95_DONE, 0, MOST_PAGE);
     view(1, CELLS, 512, 16, 512, M95_REFUSED_ADDRESS, 0, 0);
+    view(6, CELLS, 256, 0, 255, M95_DONE, 240, 16);
+    view(6, PAGE, 256, 0, SIZE_MAX, M95_DONE, 0, 0);
     /* The buffer that is not asked for is wrong alone. */
     view(1, CELLS, 512, 17, 40, M95_REFUSED_IDENTIFICATION, 0, 0);
     view(1, PAGE, 511, 16, 40, M95_REFUSED_CELLS, 0, 0);
@@ -336,6 +442,9 @@ int main(void) {
     sizes();
     refused_buffers();
     nulls();
+    no_page();
+    of_the_page();
+    smaller();
     any_bytes();
     examples();
     write_protect();

@@ -34,27 +34,27 @@ static void expect(int holds, const char *what, size_t detail) {
 static void note(void) {
     memcpy(before.state, chip.state, sizeof chip.state);
     memcpy(before.cells, chip.cells, m95_cells(chip.device));
-    memcpy(before.identification, chip.identification, m95_page(chip.device));
+    memcpy(before.identification, chip.identification, m95_identification(chip.device));
     memcpy(before.latch, chip.latch, 2 * m95_page(chip.device));
 }
 
 static int is_as_before(void) {
     return memcmp(before.state, chip.state, sizeof chip.state) == 0
            && memcmp(before.cells, chip.cells, m95_cells(chip.device)) == 0
-           && memcmp(before.identification, chip.identification, m95_page(chip.device)) == 0
+           && memcmp(before.identification, chip.identification, m95_identification(chip.device)) == 0
            && memcmp(before.latch, chip.latch, 2 * m95_page(chip.device)) == 0;
 }
 
 /* The lent buffers of the chip, with its device's lengths. */
 #define LENT                                                                        \
     chip.state, sizeof chip.state, chip.cells, m95_cells(chip.device),              \
-        chip.identification, m95_page(chip.device), chip.latch, 2 * m95_page(chip.device)
+        chip.identification, m95_identification(chip.device), chip.latch, 2 * m95_page(chip.device)
 
 static void prepare(size_t device) {
     chip.device = device;
     memset(chip.state, 0xA5, sizeof chip.state);
     memset(chip.cells, 0xA5, m95_cells(device));
-    memset(chip.identification, 0xA5, m95_page(device));
+    memset(chip.identification, 0xA5, m95_identification(device));
     memset(chip.latch, 0xA5, 2 * m95_page(device));
     expect(m95_prepare(device, LENT) == M95_DONE, "a device is prepared", device);
     expect(m95_refusal(device, LENT) == M95_DONE, "a prepared device is not refused", device);

@@ -12,7 +12,7 @@
 
 #include "m95.h"
 
-#define LENT state, sizeof state, cells, m95_cells(device), identification, m95_page(device), latch, 2 * m95_page(device)
+#define LENT state, sizeof state, cells, m95_cells(device), identification, m95_identification(device), latch, 2 * m95_page(device)
 
 static uint8_t state[M95_STATE_BYTES], cells[262144], identification[256], latch[512], piece[65536], answers[sizeof piece / 4];
 
@@ -46,13 +46,13 @@ int main(int count, char **words) {
     size_t device = count == 7 ? number_of(words[1], 10) : 0, length = m95_cells(device);
     size_t records = 0, left = 0, more, taken, done, number, status, stored, lock;
     if (m95_prepare(device, LENT) != M95_DONE) {
-        return tell("it takes a device, 1 to 4, and five more words", "host DEVICE STATUS LOCK IMAGE TRACE SAVED");
+        return tell("it takes a device, 1 to 7, and five more words", "host DEVICE STATUS LOCK IMAGE TRACE SAVED");
     }
     if (!read_cells(words[4], length)) {
         return 2;
     }
     if (m95_load(device, state, sizeof state, number_of(words[2], 16), number_of(words[3], 16)) != M95_DONE) {
-        return tell(words[2], "the device has not all of these status bits, or the lock is neither 0 nor 1");
+        return tell(words[2], "the device has not all of these status bits, or it cannot have this lock");
     }
     FILE *trace = fopen(words[5], "rb");
     if (trace == NULL) {

@@ -121,7 +121,7 @@ static void load(size_t device, size_t status, size_t lock, size_t number) {
     if (number == M95_DONE) {
         has_stored(status, lock, "what was loaded");
         expect(m95_refusal(device, LENT) == M95_DONE, "a loaded device is not refused", status);
-        m95_prepare(device, before.state, sizeof before.state, before.cells, m95_cells(device), before.identification, m95_page(device),
+        m95_prepare(device, before.state, sizeof before.state, before.cells, m95_cells(device), before.identification, m95_identification(device),
                     before.latch, 2 * m95_page(device));
         before.state[STATUS_AT] = (uint8_t)status;
         before.state[LOCK_AT] = (uint8_t)lock;
@@ -129,18 +129,22 @@ static void load(size_t device, size_t status, size_t lock, size_t number) {
     expect(memcmp(chip.state, before.state, sizeof chip.state) == 0, "the state after loading", status);
 }
 
-/* Every status and lock of a byte and some above: 1 for no device, then 5 for bits that the device has not and other locks. */
+/*
+ * Every status and lock of a byte and some above: 1 for no device, then 5 for bits that the device has not and for other locks, of which 1 is
+ * one where there is no page to lock.
+ */
 static void loading(void) {
     static const size_t large[] = {256, 256 + 0x0C, (size_t)1 << 32, SIZE_MAX, SIZE_MAX - 0xF3}, locks[] = {2, 255, 256, 257, SIZE_MAX};
-    for (size_t device = 0; device <= 5; device++) {
-        size_t none = device < 1 || device > 4 ? M95_REFUSED_DEVICE : M95_DONE, refused = none ? none : M95_REFUSED_STATE;
+    static const size_t not_had[] = {0x73, 0xF3, 0x73, 0x73, 0x73, 0xF3, 0xF3, 0x73, 0x73};
+    for (size_t device = 0; device <= 8; device++) {
+        size_t none = device < 1 || device > 7 ? M95_REFUSED_DEVICE : M95_DONE, refused = none ? none : M95_REFUSED_STATE;
         if (none == M95_DONE) {
             prepare(device);
         }
         for (size_t status = 0; status < 256; status++) {
-            int has = (status & (device == 1 ? 0xF3 : 0x73)) == 0;
+            int has = (status & not_had[device]) == 0;
             load(device, status, 0, has ? none : refused);
-            load(device, status, 1, has ? none : refused);
+            load(device, status, 1, has && m95_identification(device) > 0 ? none : refused);
             load(device, status, 2, refused);
         }
         for (size_t k = 0; k < 5; k++) {
@@ -164,7 +168,7 @@ static void loading_rooms(void) {
             expect(m95_load(2, room, length, 0xFF, 2) == M95_REFUSED_STATE, "loading with all wrong but the device", length);
             expect(m95_load(0, room, length, 0, 0) == M95_REFUSED_DEVICE, "loading no device into another room", length);
         }
-        expect(m95_load(5, room, length, 0xFF, 2) == M95_REFUSED_DEVICE, "loading with all wrong", length);
+        expect(m95_load(8, room, length, 0xFF, 2) == M95_REFUSED_DEVICE, "loading with all wrong", length);
         expect(memcmp(room, as_was, sizeof room) == 0, "refused loading leaves the room", length);
     }
 }

@@ -14,10 +14,16 @@ enum way {
     CELLS_OF_A_LARGE_NUMBER,
     PAGE_OF_A_LARGE_NUMBER,
     PAGE_OF_NO_DEVICE,
+    IDENTIFICATION_OF_A_LARGE_NUMBER,
+    IDENTIFICATION_OF_NO_DEVICE,
+    IDENTIFICATION_AS_LONG_AS_A_PAGE,
     PAGE_JUDGED_BEFORE_CELLS,
     NO_STATE_TAKEN,
     LARGE_NUMBER_TAKEN,
     NULL_STATE_TAKEN,
+    NULL_PAGE_REFUSED_WHERE_THERE_IS_NONE,
+    PAGE_TAKEN_WHERE_THERE_IS_NONE,
+    STATE_OF_THE_PAGE_TAKEN_WHERE_THERE_IS_NONE,
     PREPARES_WITHOUT_ROOM_FOR_A_STATE,
     NO_ROOM_FOR_A_STATE_TAKEN,
     REFUSED_PREPARING_GIVES_NO_STATE,
@@ -60,6 +66,7 @@ enum way {
     LOADS_A_LARGE_STATUS,
     LOADS_A_LARGE_LOCK,
     LOADS_LOCK_TWO,
+    LOADS_A_LOCK_WITHOUT_A_PAGE,
     LOADS_WITHOUT_THE_LOCK,
     LOADS_WITHOUT_BP,
     LOADS_WITH_WEL,
@@ -105,6 +112,7 @@ static enum way way(void) {
 size_t __real_m95_version(void);
 size_t __real_m95_cells(size_t device);
 size_t __real_m95_page(size_t device);
+size_t __real_m95_identification(size_t device);
 size_t __real_m95_refusal(size_t device, ONLY_READ);
 size_t __real_m95_prepare(size_t device, WRITTEN);
 size_t __real_m95_load(size_t device, uint8_t *state, size_t state_length, size_t status, size_t lock);
@@ -118,7 +126,7 @@ size_t __real_m95_view(size_t device, size_t region, PAGES, size_t address, size
 size_t __wrap_m95_version(void) { return __real_m95_version() + (way() == OTHER_VERSION); }
 
 size_t __wrap_m95_cells(size_t device) {
-    if (way() == CELLS_OF_NO_DEVICE && device == 5) {
+    if (way() == CELLS_OF_NO_DEVICE && device == 8) {
         return 512;
     }
     return __real_m95_cells(way() == CELLS_OF_A_LARGE_NUMBER ? device & 255 : device);
@@ -131,13 +139,32 @@ size_t __wrap_m95_page(size_t device) {
     return __real_m95_page(way() == PAGE_OF_A_LARGE_NUMBER ? device & 255 : device);
 }
 
+size_t __wrap_m95_identification(size_t device) {
+    if (way() == IDENTIFICATION_OF_NO_DEVICE && device == 0) {
+        return 16;
+    }
+    if (way() == IDENTIFICATION_AS_LONG_AS_A_PAGE) {
+        return __real_m95_page(device);
+    }
+    return __real_m95_identification(way() == IDENTIFICATION_OF_A_LARGE_NUMBER ? device & 255 : device);
+}
+
 size_t __wrap_m95_refusal(size_t device, ONLY_READ) {
     if (way() == NULL_STATE_TAKEN && state == NULL) {
         return M95_DONE;
     }
     size_t number = __real_m95_refusal(way() == LARGE_NUMBER_TAKEN ? device & 255 : device, BUFFERS);
-    if (way() == PAGE_JUDGED_BEFORE_CELLS && number == M95_REFUSED_CELLS && identification_length != __real_m95_page(device)) {
+    if (way() == PAGE_JUDGED_BEFORE_CELLS && number == M95_REFUSED_CELLS && identification_length != __real_m95_identification(device)) {
         return M95_REFUSED_IDENTIFICATION;
+    }
+    if (way() == NULL_PAGE_REFUSED_WHERE_THERE_IS_NONE && number == M95_DONE && identification == NULL) {
+        return M95_REFUSED_IDENTIFICATION;
+    }
+    if (way() == PAGE_TAKEN_WHERE_THERE_IS_NONE && number == M95_REFUSED_IDENTIFICATION && __real_m95_identification(device) == 0) {
+        return M95_DONE;
+    }
+    if (way() == STATE_OF_THE_PAGE_TAKEN_WHERE_THERE_IS_NONE && number == M95_REFUSED_STATE && device == 7) {
+        return M95_DONE;
     }
     return way() == NO_STATE_TAKEN && number == M95_REFUSED_STATE ? M95_DONE : number;
 }
@@ -226,7 +253,7 @@ static size_t region_for(size_t region) {
 /* The number of a view, made wrong. */
 static size_t view_number(size_t device, size_t region, size_t page, size_t address, size_t number) {
     int is_known = number != M95_REFUSED_DEVICE, is_past = address >= __real_m95_cells(device);
-    if (way() == VIEWED_PAGE_JUDGED_BEFORE_CELLS && is_known && page != __real_m95_page(device)) {
+    if (way() == VIEWED_PAGE_JUDGED_BEFORE_CELLS && is_known && page != __real_m95_identification(device)) {
         return M95_REFUSED_IDENTIFICATION;
     }
     if (way() == ADDRESS_ASKED_OF_THE_PAGE && number == M95_DONE && is_past) {
@@ -247,7 +274,7 @@ size_t __wrap_m95_view(size_t device, size_t region, PAGES, size_t address, size
         cells_length = __real_m95_cells(device);
     }
     if (way() == BUFFER_NOT_ASKED_FOR_UNJUDGED && region == M95_REGION_CELLS) {
-        identification_length = __real_m95_page(device);
+        identification_length = __real_m95_identification(device);
     }
     size_t number = __real_m95_view(device, region_for(region), VIEWED, address, start, length);
     *start += (way() == VIEW_STARTS_ONE_LATER && number == M95_DONE) || (way() == REFUSED_VIEW_STARTS && number != M95_DONE);
@@ -272,6 +299,9 @@ static size_t load_fitting(size_t device, uint8_t *state, size_t state_length, s
     }
     if (way() == LOADS_LOCK_TWO && lock == 2) {
         lock = 1;
+    }
+    if (way() == LOADS_A_LOCK_WITHOUT_A_PAGE && __real_m95_identification(device) == 0 && lock == 1) {
+        lock = 0;
     }
     if (way() == LOADS_INTO_A_LONG_ROOM && state_length > M95_STATE_BYTES) {
         state_length = M95_STATE_BYTES;

@@ -95,7 +95,7 @@ impl Bench {
         Bench {
             state: [0; STATE_BYTES],
             cells: vec![0; proved::cells(device)],
-            identification: vec![0; proved::page(device)],
+            identification: vec![0; proved::identification(device)],
             latch: vec![0; 2 * proved::page(device)],
             answers: vec![0; records],
         }

@@ -8,7 +8,7 @@ fn main() {
     let mut lent = Lent {
         state: &mut [0; STATE_BYTES],
         cells: &mut vec![0; proved::cells(DEVICE)],
-        identification: &mut vec![0; proved::page(DEVICE)],
+        identification: &mut vec![0; proved::identification(DEVICE)],
         latch: &mut vec![0; 2 * proved::page(DEVICE)],
     };
     let mut trace = Vec::new();

@@ -9,7 +9,7 @@ pub const VERSION: usize = 1;
 
 /// The numbers that calls give back, but for 0, which says that all is well.
 pub mod refused {
-    /// The device is not 1 to 4.
+    /// The device is not 1 to 7.
     pub const DEVICE: usize = 1;
     /// Cells of a wrong length.
     pub const CELLS: usize = 2;
@@ -66,6 +66,7 @@ mod c {
         pub fn m95_version() -> usize;
         pub fn m95_cells(device: usize) -> usize;
         pub fn m95_page(device: usize) -> usize;
+        pub fn m95_identification(device: usize) -> usize;
         pub fn m95_refusal(
             device: usize,
             state: *const u8,
@@ -201,6 +202,12 @@ pub fn page(device: usize) -> usize {
     unsafe { c::m95_page(device) }
 }
 
+/// The bytes of a device's identification page, 0 where it has none; 0 for a number that is no device's.
+pub fn identification(device: usize) -> usize {
+    // SAFETY: it takes and gives numbers only.
+    unsafe { c::m95_identification(device) }
+}
+
 /// What `event` and `run` refuse the buffers with: 1 to 5, or 0.
 #[must_use]
 pub fn refusal(device: usize, lent: &Lent) -> usize {
@@ -216,7 +223,8 @@ pub fn prepare(device: usize, lent: &mut Lent) -> usize {
 }
 
 /// Puts the state of a device that has just got its power, with the status bits and the lock that it has stored: 1; 5 for a room of a
-/// wrong length, bits that the device has not, or a lock that is neither 0 nor 1; or 0. Refused, it leaves the room as it was.
+/// wrong length, bits that the device has not, or a lock that is neither 0 nor, where there is an identification page, 1; or 0. Refused, it
+/// leaves the room as it was.
 #[must_use]
 pub fn load(device: usize, state: &mut [u8], status: usize, lock: usize) -> usize {
     // SAFETY: the pointer is a slice's, with the slice's length, and the slice is lent for writing.

@@ -21,7 +21,7 @@ impl Buffers {
         Buffers {
             state: vec![0xA5; STATE_BYTES],
             cells: vec![0xA5; proved::cells(device)],
-            identification: vec![0xA5; proved::page(device)],
+            identification: vec![0xA5; proved::identification(device)],
             latch: vec![0xA5; 2 * proved::page(device)],
         }
     }
@@ -56,17 +56,22 @@ fn prepared(device: usize) -> (Buffers, Buffers, State) {
     (ours, model, state)
 }
 
+fn sizes(device: usize) -> (usize, usize, usize) {
+    (
+        proved::cells(device),
+        proved::page(device),
+        proved::identification(device),
+    )
+}
+
 #[test]
 fn sizes_are_the_models() {
     for row in &DEVICES {
-        let device = usize::from(row.number);
-        assert_eq!(
-            (proved::cells(device), proved::page(device)),
-            (row.cells, row.page)
-        );
+        let own = (row.cells, row.page, row.identification);
+        assert_eq!(sizes(usize::from(row.number)), own);
     }
-    for device in [0, 5, 255, 256, 257, 260, usize::MAX] {
-        assert_eq!((proved::cells(device), proved::page(device)), (0, 0));
+    for device in [0, 8, 255, 256, 257, 260, 263, usize::MAX] {
+        assert_eq!(sizes(device), (0, 0, 0));
     }
 }
 
@@ -204,13 +209,13 @@ fn trusting_start(status: u8) -> Vec<u8> {
     records_of(&events)
 }
 
-/// Traces on chips that were loaded with every set of status bits that the device has, locked and not.
+/// Traces on chips that were loaded with every set of status bits that the device has, locked where it can be and not.
 #[test]
 fn traces_of_loaded_chips() {
     let mut random = Random::new(3);
     for row in &DEVICES {
         for bits in (0..=255).filter(|bits| bits & !row.status_bits() == 0) {
-            for lock in 0..=1 {
+            for lock in 0..=u8::from(row.has_identification()) {
                 let device = usize::from(row.number);
                 let from = loaded(device, bits, lock, &mut random);
                 let mut trace = trusting_start(bits);
@@ -224,7 +229,7 @@ fn traces_of_loaded_chips() {
 /// Every status of a byte and some locks, on every device and on numbers that are none; and what is above a byte.
 #[test]
 fn loading_is_the_models() {
-    for device in [0, 1, 2, 3, 4, 5, 255] {
+    for device in (0..=8).chain([255]) {
         for status in 0..=255 {
             for lock in [0, 1, 2, 255] {
                 let (number, model) = m95_model::load(device, status, lock);
@@ -258,7 +263,7 @@ fn loading_into_other_rooms() {
         let mut room = vec![0xA5; length];
         assert_eq!(proved::load(2, &mut room, 0, 0), refused::STATE);
         assert_eq!(proved::load(2, &mut room, 0xFF, 2), refused::STATE);
-        assert_eq!(proved::load(6, &mut room, 0xFF, 2), refused::DEVICE);
+        assert_eq!(proved::load(8, &mut room, 0xFF, 2), refused::DEVICE);
         assert!(room.iter().all(|&byte| byte == 0xA5));
         assert_eq!(proved::stored(&room), Err(refused::STATE));
     }
@@ -342,11 +347,11 @@ fn kinds_and_values_that_are_no_event() {
 /// Buffers of every length about the right one, in every combination: the numbers are the model's.
 #[test]
 fn lengths_of_lent_buffers() {
-    let lengths = |right: usize| [right, 0, right - 1, right + 1];
-    for device in 0..=5 {
-        let row = &DEVICES[device.clamp(1, 4) - 1];
+    let lengths = |right: usize| [right, 0, right.saturating_sub(1), right + 1];
+    for device in 0..=DEVICES.len() + 1 {
+        let row = &DEVICES[device.clamp(1, DEVICES.len()) - 1];
         for cells in lengths(row.cells) {
-            for page in lengths(row.page) {
+            for page in lengths(row.identification).into_iter().chain([row.page]) {
                 for latch in lengths(2 * row.page) {
                     let (mut cells, mut page, mut latch) =
                         (vec![7; cells], vec![7; page], vec![0; latch]);
