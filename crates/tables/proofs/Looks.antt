@@ -1,10 +1,9 @@
 -- Looking a code up, in one step for each way through the code; and the arm that a value is taken by.
-use Prim.Native.Nat.{ℕ, zero, suc, _-_, _*_, _<_}
+use Prim.Native.Nat.{ℕ, zero, suc, _-_, _*_, _≤_}
 use mathlib.Core.Path.{_≡_, refl, sym, ap, _∙_}
 use mathlib.Core.Bool.{Bool, true, false, not, _&&_}
-use mathlib.Core.List.{List, [], _∷_}
 use native.Mathlib.Omega.{arith}
-use lib.ListN.{length, getD}
+use lib.ListN.{List·getD-eq-default}
 use lib.Dec.{eqb}
 use borrow.Author.Tests.{ne-eqb}
 use Rattle.rules.specs.declared.Row.{Row}
@@ -12,7 +11,7 @@ use Rattle.rules.specs.declared.Facts.{Facts}
 use Rattle.rules.specs.declared.Instruction.{Instruction}
 use Rattle.rules.specs.declared.Instruction.the-variants.{Wren, Wrdi, Rdsr, Wrsr, Read, Write, Rdid, Wrid, Unknown}
 use Rattle.rules.specs.World.{if_then_else_, bit, number}
-use Rattle.rules.specs.Device.{single, hasIdentification}
+use Rattle.rules.specs.Device.{table, m95040, rowOf, single, hasIdentification}
 use Rattle.rules.specs.Instruction.{facts, lookUp, codes, named, decode}
 
 -- What the arm of a value says holds of whatever is that value.
@@ -67,8 +66,11 @@ module _ (row : Row) (c : ℕ) {i : Instruction} {f : Facts} {there : Bool} (ei 
   unfolding decode
   decode-named e = rw (rw (eh, ef, ei) at e) ei
 
--- A row of the table does not depend on what is read past its end.
-pub any-default : {A : Type 0} (l : List A) (i : ℕ) (d e : A) → i < length l → getD l i d ≡ getD l i e
-any-default [] i d e h = absurd (omega arith)
-any-default (x ∷ l) zero d e h = refl
-any-default (x ∷ l) (suc i) d e h = any-default l i d e (omega arith)
+-- A number that none of the later rows has is read as the first.
+behind : (m : ℕ) → 6 ≤ m → m95040 ≡ rowOf (suc (suc m))
+behind m h = let past : 7 ≤ suc (suc m) - 1 = omega arith in sym (List·getD-eq-default table m95040 past)
+
+pub first-row : (n : ℕ) → (n ≡ 2 → ⊥) → (n ≡ 3 → ⊥) → (n ≡ 4 → ⊥) → (n ≡ 5 → ⊥) → (n ≡ 6 → ⊥) → (n ≡ 7 → ⊥) → m95040 ≡ rowOf n
+first-row zero a b c d e f = refl
+first-row (suc zero) a b c d e f = refl
+first-row (suc (suc m)) a b c d e f = behind m (omega arith)

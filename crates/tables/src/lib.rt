@@ -12,71 +12,76 @@ use rules::Kind;
 use rules::Row;
 use rules::Source;
 
-const ROWS: [Row; 7] = [
-    Row {
-        cells: 512,
-        page: 16,
-        identification: 16,
-        width: 1,
-        time: 5000,
-        srwd: false,
-        coded: false,
-    },
-    Row {
-        cells: 16384,
-        page: 64,
-        identification: 64,
-        width: 2,
-        time: 5000,
-        srwd: true,
-        coded: false,
-    },
-    Row {
-        cells: 131072,
-        page: 256,
-        identification: 256,
-        width: 3,
-        time: 4000,
-        srwd: true,
-        coded: false,
-    },
-    Row {
-        cells: 262144,
-        page: 256,
-        identification: 256,
-        width: 3,
-        time: 5000,
-        srwd: true,
-        coded: true,
-    },
-    Row {
-        cells: 128,
-        page: 16,
-        identification: 0,
-        width: 1,
-        time: 5000,
-        srwd: false,
-        coded: false,
-    },
-    Row {
-        cells: 256,
-        page: 16,
-        identification: 0,
-        width: 1,
-        time: 5000,
-        srwd: false,
-        coded: false,
-    },
-    Row {
-        cells: 16384,
-        page: 64,
-        identification: 0,
-        width: 2,
-        time: 5000,
-        srwd: true,
-        coded: false,
-    },
-];
+// The device table: a row each, under the names that the rules have for them.
+const M95040: Row = Row {
+    cells: 512,
+    page: 16,
+    identification: 16,
+    width: 1,
+    time: 5000,
+    srwd: false,
+    coded: false,
+};
+
+const M95128D: Row = Row {
+    cells: 16384,
+    page: 64,
+    identification: 64,
+    width: 2,
+    time: 5000,
+    srwd: true,
+    coded: false,
+};
+
+const M95M01: Row = Row {
+    cells: 131072,
+    page: 256,
+    identification: 256,
+    width: 3,
+    time: 4000,
+    srwd: true,
+    coded: false,
+};
+
+const M95M02: Row = Row {
+    cells: 262144,
+    page: 256,
+    identification: 256,
+    width: 3,
+    time: 5000,
+    srwd: true,
+    coded: true,
+};
+
+const M95010: Row = Row {
+    cells: 128,
+    page: 16,
+    identification: 0,
+    width: 1,
+    time: 5000,
+    srwd: false,
+    coded: false,
+};
+
+const M95020: Row = Row {
+    cells: 256,
+    page: 16,
+    identification: 0,
+    width: 1,
+    time: 5000,
+    srwd: false,
+    coded: false,
+};
+
+const M95128: Row = Row {
+    cells: 16384,
+    page: 64,
+    identification: 0,
+    width: 2,
+    time: 5000,
+    srwd: true,
+    coded: false,
+};
 
 // Whether there is a device of this number.
 pub fn is_device(device: u8) -> bool
@@ -89,12 +94,15 @@ pub fn is_device(device: u8) -> bool
 pub fn row_of(device: u8) -> Row
     ensures { λ r. ⌜ r ≡ rowOf device ⌝ }
 {
-    let n = device as usize;
-    if n == 0 {
-        return ROWS[0];
+    match device {
+        2 => M95128D,
+        3 => M95M01,
+        4 => M95M02,
+        5 => M95010,
+        6 => M95020,
+        7 => M95128,
+        _ => M95040,
     }
-    let at = n - 1;
-    if at < 7 { ROWS[at] } else { ROWS[0] }
 }
 
 // A code as it is looked up: without bit 3 where the address is one byte.

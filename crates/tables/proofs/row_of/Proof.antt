@@ -1,46 +1,31 @@
 -- `tables::row_of` meets its contract.
-use Prim.Native.Nat.{_-_}
-use mathlib.Core.Path.{sym}
-use lib.ListN.{List·getD-eq-default}
-use Rattle.rules.specs.Device.{table, m95040}
-use Rattle.tables.proofs.Looks.{any-default}
-use borrow.Author.Needs.{needs}
+use Rattle.tables.proofs.Looks.{first-row}
 use Rattle.tables.proofs.row_of.Statement.{statement}
 use Rattle.tables.proofs.row_of.Tie as tie
 
-array-copy-out-result : tie.Need-array-copy-out-result
-array-copy-out-result c = search needs
-
 returns : tie.Need-returns
-returns c = rw (c .before .if1 .taken)
-
-sub-at : tie.Need-sub-at
-sub-at c = search needs
-
-mul-result : tie.Need-mul-result
-mul-result c = search needs
-
-array-copy-out-result-2 : tie.Need-array-copy-out-result-2
-array-copy-out-result-2 c = search needs
-
-array-copy-out-result-3 : tie.Need-array-copy-out-result-3
-array-copy-out-result-3 c = search needs
+returns c = rw (c .match .keys1)
 
 returns-2 : tie.Need-returns-2
-returns-2 c = any-default table (c .before .before .before .args .device - 1) _ m95040 (c .before .if2 .taken)
+returns-2 c = rw (c .match .keys2)
 
 returns-3 : tie.Need-returns-3
-returns-3 c = sym (List·getD-eq-default table m95040 (c .before .if2 .left))
+returns-3 c = rw (c .match .keys3)
+
+returns-4 : tie.Need-returns-4
+returns-4 c = rw (c .match .keys4)
+
+returns-5 : tie.Need-returns-5
+returns-5 c = rw (c .match .keys5)
+
+returns-6 : tie.Need-returns-6
+returns-6 c = rw (c .match .keys6)
+
+returns-7 : tie.Need-returns-7
+returns-7 c =
+    let none = c .match .rest in
+    first-row (c .before .args .device) (none .0 .0 .0 .0 .0 .1) (none .0 .0 .0 .0 .1) (none .0 .0 .0 .1) (none .0 .0 .1) (none .0 .1) (none .1)
 
 pub row-of-spec : {M : Type 1} → statement M
 row-of-spec =
-    tie.close
-    (tie.spec
-    array-copy-out-result
-    returns
-    sub-at
-    mul-result
-    array-copy-out-result-2
-    array-copy-out-result-3
-    returns-2
-    returns-3)
+    tie.close (tie.spec returns returns-2 returns-3 returns-4 returns-5 returns-6 returns-7)
