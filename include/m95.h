@@ -157,8 +157,8 @@ size_t m95_stored(const uint8_t *state, size_t state_length, size_t *status, siz
 /*
  * A view of a region: where its part starts, and how long it is. M95_REGION_CELLS shows the page that holds the address, which is at
  * cells + start; M95_REGION_IDENTIFICATION shows all of the identification page, whatever the address, which is at identification + start,
- * and that start is 0; so is the length where the device has no such page. Both buffers are judged whatever the region: 1, 2, 3; then 7 for a number that is no region's; then, for the cells
- * alone, 13 for an address past them; or 0. Refused, start and length are 0.
+ * and that start is 0; so is the length where the device has no such page. Both buffers are judged whatever the region: 1, 2, 3; then 7 for
+ * a number that is no region's; then, for the cells alone, 13 for an address past them; or 0. Refused, start and length are 0.
  */
 size_t m95_view(size_t device, size_t region,
                 const uint8_t *cells, size_t cells_length,

@@ -133,7 +133,7 @@ static void nulls(void) {
 
 /* Devices 5 to 7 have no identification page: NULL does for it in every call, and a byte of it, or a page, gets 3. */
 static void no_page(void) {
-    static const uint8_t record[] = {3, 0, M95_SET_PIN, 0, M95_S + 1};
+    static const uint8_t rise[] = {3, 0, M95_SET_PIN, 0, M95_S + 1}, fall[] = {3, 0, M95_SET_PIN, 0, M95_S};
     for (size_t device = 5; device <= 7; device++) {
         size_t answer = 9, taken = 9, done = 9, start = 9, length = 9;
         uint8_t answers[1] = {7};
@@ -141,21 +141,27 @@ static void no_page(void) {
         expect(m95_prepare(device, LENT_WITH(NULL, 0)) == M95_DONE, "preparing without a page", device);
         expect(m95_refusal(device, LENT_WITH(NULL, 0)) == M95_DONE, "refusal without a page", device);
         expect(m95_event(device, LENT_WITH(NULL, 0), M95_WAIT, 1, &answer) == M95_DONE && answer == M95_Z, "an event without a page", device);
-        expect(m95_run(device, LENT_WITH(NULL, 0), record, sizeof record, answers, 1, 1, &taken, &done) == M95_DONE && done == 1,
+        expect(m95_run(device, LENT_WITH(NULL, 0), rise, sizeof rise, answers, 1, 1, &taken, &done) == M95_DONE && done == 1,
                "a trace without a page", device);
         null_views(device, 0, 1);
+        prepare(device);
+        chip.cells[3] = chip.latch[7] = 0x5A; /* so that a call which is refused and done all the same is seen */
         note();
         for (size_t page = 1; page <= m95_page(device); page += m95_page(device) - 1) {
-            expect(m95_prepare(device, LENT_WITH(chip.identification, page)) == M95_REFUSED_IDENTIFICATION, "preparing with a page", page);
-            expect(m95_refusal(device, LENT_WITH(chip.identification, page)) == M95_REFUSED_IDENTIFICATION, "refusal with a page", page);
-            expect(m95_event(device, LENT_WITH(chip.identification, page), M95_WAIT, 1, &answer) == M95_REFUSED_IDENTIFICATION,
+#define WITH_PAGE LENT_WITH(chip.identification, page)
+            answer = taken = done = start = length = 9;
+            answers[0] = 7;
+            expect(m95_prepare(device, WITH_PAGE) == M95_REFUSED_IDENTIFICATION, "preparing with a page", page);
+            expect(m95_refusal(device, WITH_PAGE) == M95_REFUSED_IDENTIFICATION, "refusal with a page", page);
+            expect(m95_event(device, WITH_PAGE, M95_SET_PIN, M95_S, &answer) == M95_REFUSED_IDENTIFICATION && answer == M95_Z,
                    "an event with a page", page);
-            expect(m95_run(device, LENT_WITH(chip.identification, page), record, sizeof record, answers, 1, 1, &taken, &done)
-                       == M95_REFUSED_IDENTIFICATION,
+            expect(m95_run(device, WITH_PAGE, fall, sizeof fall, answers, 1, 1, &taken, &done) == M95_REFUSED_IDENTIFICATION,
                    "a trace with a page", page);
+            expect(taken == 0 && done == 0 && answers[0] == 7, "a trace with a page does nothing", page);
             expect(m95_view(device, M95_REGION_IDENTIFICATION, chip.cells, m95_cells(device), chip.identification, page, 0, &start, &length)
                        == M95_REFUSED_IDENTIFICATION,
                    "a view with a page", page);
+            expect(start == 0 && length == 0, "what it shows", page);
         }
         expect(is_as_before(), "a page that is refused leaves the buffers", device);
     }
@@ -174,6 +180,10 @@ static void of_the_page(void) {
     other_state(M95_DONE, "READ left over");
     COMMAND(0x83, 0x00, 0x00);
     other_state(M95_REFUSED_STATE, "RDID left over");
+    set_pin(M95_S, 0);
+    bits(0x83, 8);
+    other_state(M95_REFUSED_STATE, "RDID in its selection");
+    set_pin(M95_S, 1);
     COMMAND(0x83, 0x04, 0x00);
     other_state(M95_REFUSED_STATE, "RDLS left over");
     COMMAND(0x82, 0x00, 0x00);

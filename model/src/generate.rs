@@ -24,7 +24,7 @@ pub use inputs::{bench_input, odd_bench_input, ODD_BENCH_INPUTS};
 pub use made::made_events;
 pub use malformed::{tail, TAILS};
 pub use random::Random;
-pub use states::{loads, states};
+pub use states::{loads, states, INSTRUCTIONS};
 pub use views::{view_bytes, views, View};
 
 /// What a trace is about.

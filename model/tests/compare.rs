@@ -36,6 +36,20 @@ fn text(output: &Output) -> String {
     String::from_utf8(output.stdout.clone()).expect("text")
 }
 
+/// The first line that `compare` prints where `play` is followed by a command that spoils what it left.
+fn difference(directory: &Path, spoil: &str) -> String {
+    let play = script(directory, &format!("{PLAY} \"$@\"; {spoil}"));
+    let output = compare(directory, &play, BENCH);
+    assert_eq!(output.status.code(), Some(1));
+    let text = text(&output);
+    text.lines().next().expect("a difference").to_string()
+}
+
+/// A command that puts a byte, named as `printf` has it, at a place of the file that is this word of `play`'s.
+fn spoils(word: usize, place: usize, byte: &str) -> String {
+    format!("printf '{byte}' | dd of=\"${word}\" bs=1 seek={place} conv=notrunc 2>/dev/null")
+}
+
 fn files(directory: &Path) -> usize {
     fs::read_dir(directory.join("files"))
         .expect("a directory")
@@ -59,14 +73,7 @@ fn no_difference_to_itself() {
 #[test]
 fn a_wrong_answer_is_found() {
     let directory = directory("answer");
-    let spoil = format!(
-        "{PLAY} \"$@\"; printf '\\003' | dd of=\"$4\" bs=1 seek=99 conv=notrunc 2>/dev/null"
-    );
-    let play = script(&directory, &spoil);
-    let output = compare(&directory, &play, BENCH);
-    assert_eq!(output.status.code(), Some(1));
-    let text = text(&output);
-    let first = text.lines().next().expect("a difference");
+    let first = difference(&directory, &spoils(4, 99, "\\003"));
     assert!(first.starts_with("play differs: seed "), "{first}");
     assert!(first.contains("profile commands, device 1: record 100: the model answers "));
     assert!(first.ends_with(", the other 3"), "{first}");
@@ -88,14 +95,7 @@ fn a_wrong_answer_is_found() {
 fn a_wrong_stored_byte_is_found() {
     let directory = directory("stored");
     // The last byte of device 1's chip is the lock; 512 + 16 + 1 bytes come before it.
-    let spoil = format!(
-        "{PLAY} \"$@\"; printf '\\007' | dd of=\"$2\" bs=1 seek=529 conv=notrunc 2>/dev/null"
-    );
-    let play = script(&directory, &spoil);
-    let output = compare(&directory, &play, BENCH);
-    assert_eq!(output.status.code(), Some(1));
-    let text = text(&output);
-    let first = text.lines().next().expect("a difference");
+    let first = difference(&directory, &spoils(2, 529, "\\007"));
     assert!(
         first.contains("device 1: lock: the model stores 0"),
         "{first}"
@@ -108,15 +108,8 @@ fn a_wrong_stored_byte_is_found() {
 fn a_wrong_byte_of_a_chip_without_a_page_is_found() {
     for (place, part) in [(127, "cell 7Fh"), (128, "status"), (129, "lock")] {
         let directory = directory("without_page");
-        let spoil = format!(
-            "{PLAY} \"$@\"; test \"$1\" != 5 || \
-             printf '\\007' | dd of=\"$2\" bs=1 seek={place} conv=notrunc 2>/dev/null"
-        );
-        let play = script(&directory, &spoil);
-        let output = compare(&directory, &play, BENCH);
-        assert_eq!(output.status.code(), Some(1));
-        let text = text(&output);
-        let first = text.lines().next().expect("a difference");
+        let spoil = format!("test \"$1\" != 5 || {}", spoils(2, place, "\\007"));
+        let first = difference(&directory, &spoil);
         assert!(
             first.contains(&format!("device 5: {part}: the model stores ")),
             "{first}"

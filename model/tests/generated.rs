@@ -3,10 +3,9 @@
 mod common;
 
 use common::Board;
-use m95_model::generate::{events, records_of, tail, trace, Profile, Random, TAILS};
+use m95_model::generate::{events, records_of, tail, trace, Profile, Random, INSTRUCTIONS, TAILS};
 use m95_model::{
-    is_sound, play, status_byte, Contents, Cycle, Device, Event, Instruction, Number, Output,
-    State, DEVICES,
+    is_sound, play, status_byte, Contents, Cycle, Device, Event, Number, Output, State, DEVICES,
 };
 
 const RECORDS: usize = 12_000;
@@ -225,19 +224,6 @@ fn same_seed_same_trace() {
 
 /// A random state of the device, sound or not; most fields lie close to what is sound.
 fn random_state(device: &Device, random: &mut Random) -> State {
-    let instructions = [
-        Instruction::Unknown,
-        Instruction::Wren,
-        Instruction::Wrdi,
-        Instruction::Rdsr,
-        Instruction::Wrsr,
-        Instruction::Read,
-        Instruction::Write,
-        Instruction::Rdid,
-        Instruction::Rdls,
-        Instruction::Wrid,
-        Instruction::Lid,
-    ];
     let cycles = [
         Cycle::None,
         Cycle::None,
@@ -263,7 +249,7 @@ fn random_state(device: &Device, random: &mut Random) -> State {
         value: random.below(1 << bits) as u8,
         whole_bytes: random.below(7) as u8,
         last_byte: random.byte(),
-        instruction: random.pick(&instructions),
+        instruction: random.pick(&INSTRUCTIONS),
         turned_away: random.level(),
         address: random.below(device.cells),
         sent_byte: random.byte(),

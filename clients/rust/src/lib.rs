@@ -297,7 +297,8 @@ pub fn stored(state: &[u8]) -> Result<(usize, usize), usize> {
     }
 }
 
-/// A view of a region: of the cells the page that holds the address, of the identification page all, whatever the address. It is refused
+/// A view of a region: of the cells the page that holds the address, of the identification page all, whatever the address (nothing where the
+/// device has none). It is refused
 /// with 1, with 2 and 3 whichever slice was asked for, and for the cells alone with 13.
 pub fn view<'a>(
     device: usize,

@@ -112,14 +112,14 @@ fn put_trace(
 {
     let row = tables::row_of(device);
     let room = row.cells;
-    let identified = row.identification;
+    let identification_room = row.identification;
     let page = row.page;
     let both = page + page;
     let length = trace.len();
     let ran = bench_run(
         device,
         &mut cells[..room],
-        &mut identification[..identified],
+        &mut identification[..identification_room],
         &mut latch[..both],
         trace,
         &mut answers[..length],

@@ -71,12 +71,12 @@ pub join : (k w n b : ℕ) → n < 2 ^ k → b * 2 ^ k < 2 ^ w → bitOr n (b * 
 join k w n b hn hb = let whole : b * 2 ^ k % 2 ^ w ≡ b * 2 ^ k = mod-eq-of-lt hb in rw (whole, or-shifted-r b k n) (omega arith)
 
 -- Masks of a byte, over all bytes.
-a8-test : ℕ → Bool
-a8-test x = eqb (bitAnd x 0xF7) (x - number (bit x 3) * 8)
+bit-3-test : ℕ → Bool
+bit-3-test x = eqb (bitAnd x 0xF7) (x - number (bit x 3) * 8)
 
-pub mask-a8 : (x : ℕ) → x < 256 → bitAnd x 0xF7 ≡ x - number (bit x 3) * 8
-unfolding a8-test
-mask-a8 x h = eqb→eq _ _ (passes 256 a8-test tt x h)
+pub mask-bit-3 : (x : ℕ) → x < 256 → bitAnd x 0xF7 ≡ x - number (bit x 3) * 8
+unfolding bit-3-test
+mask-bit-3 x h = eqb→eq _ _ (passes 256 bit-3-test tt x h)
 
 abbrev bitsOf : Bool → ℕ → ℕ
 bitsOf srwd v = number (srwd && bit v 7) * 128 + v / 4 % 4 * 4

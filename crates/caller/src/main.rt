@@ -158,7 +158,7 @@ fn tells_status() {
     check::expect(status == 0);
 }
 
-// What an M95128 has stored is loaded and told again; an M95040 has no bit 7, so that it is refused there with 5.
+// What an M95128-D has stored is loaded and told again; an M95040 has no bit 7, so that it is refused there with 5.
 fn loads() {
     let stored = Stored {
         status: 0x84,

@@ -17,7 +17,7 @@ use Rattle.rules.specs.Sound.{Lent}
 use Rattle.rules.specs.Call.{memoryRefusal, lentRefusal, preparedAs, prepareOutcome, poweredWith, loadedAs, loadOutcome}
 use Rattle.rules.proofs.Program.{lent-facts}
 
--- A number from 1 to that of the table's rows is a device's.
+-- A number from 1 to how many rows the table has is a device's.
 pub a-device : (device : ℕ) → 1 ≤ device → device ≤ length table → isDevice device ≡ true
 a-device device a b = rw (le-leb 1 device a, le-leb device (length table) b)
 

@@ -8,8 +8,7 @@ use rules::Registers;
 use rules::State;
 use rules::Stored;
 
-// 1 where there is no such device, 5 where it has not these bits, or no lock is so: 1 is the most, and 0 where there is no page to lock.
-// 0 otherwise.
+// 1 where there is no such device; 5 where it has not these bits, or where the lock is above 1, or above 0 with no page to lock; else 0.
 fn stored_refused(device: u8, stored: Stored) -> usize
     ensures { λ r. ⌜ r ≡ loadOutcome device stored .number ⌝ }
 {

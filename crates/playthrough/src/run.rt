@@ -197,13 +197,13 @@ pub fn play_device(device: u8, chip: &[u8], trace: &[u8], answers: &[u8], new: &
     let mut latch = [0u8; 512];
     let row = tables::row_of(device);
     let room = row.cells;
-    let identified = row.identification;
+    let identification_room = row.identification;
     let page = row.page;
     let both = page + page;
     play_lent(
         device,
         &mut cells[..room],
-        &mut identification[..identified],
+        &mut identification[..identification_room],
         &mut latch[..both],
         chip,
         trace,

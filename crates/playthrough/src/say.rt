@@ -27,9 +27,15 @@ pub fn is_faulty(fault: Fault, path: &[u8]) -> bool {
             return false;
         }
         Fault::Unread => fail(b"play: cannot read the chip ", path),
-        Fault::Length => complain(
-            b"play: CHIP's length is not the device's: its cells, or these with identification page (5, 6 and 7 have none), status and lock: 512 or 530 bytes for device 1, 16384 or 16450 for 2, 131072 or 131330 for 3, 262144 or 262402 for 4, 128 or 130 for 5, 256 or 258 for 6, 16384 or 16386 for 7\n",
-        ),
+        Fault::Length => {
+            complain(
+                b"play: CHIP's length is not the device's: its cells, or these with identification page (5, 6 and 7 have none), status and lock: ",
+            );
+            complain(
+                b"512 or 530 bytes for device 1, 16384 or 16450 for 2, 131072 or 131330 for 3, 262144 or 262402 for 4, ",
+            );
+            complain(b"128 or 130 for 5, 256 or 258 for 6, 16384 or 16386 for 7\n");
+        }
     }
     true
 }

@@ -158,7 +158,7 @@ fn is_good_here(bytes: &[u8], at: usize, h: Header) -> bool
     let mut answers = [0u8; 131072];
     let row = tables::row_of(h.device);
     let room = row.cells;
-    let identified = row.identification;
+    let identification_room = row.identification;
     let page = row.page;
     let both = page + page;
     let length = h.trace;
@@ -167,10 +167,10 @@ fn is_good_here(bytes: &[u8], at: usize, h: Header) -> bool
         at,
         h,
         &mut cells[..room],
-        &mut identification[..identified],
+        &mut identification[..identification_room],
         &mut latch[..both],
         &mut blank[..room],
-        &mut factory[..identified],
+        &mut factory[..identification_room],
         &mut answers[..length],
     )
 }

@@ -80,6 +80,7 @@ pub or-map : (a b c : Bool) → (b ≡ true → c ≡ true) → (a || b) ≡ tru
 or-map true b c f e = refl
 or-map false b c f e = f e
 
+-- What an implication that holds says under its premise.
 pub implied : (a b : Bool) → (a implies b) ≡ true → a ≡ true → b ≡ true
 implied true b e f = e
 implied false b e f = clash (sym f)

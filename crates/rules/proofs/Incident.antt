@@ -5,11 +5,10 @@ use mathlib.Core.Bool.{Bool, true, false, _&&_}
 use mathlib.Core.List.{List, [], _∷_, _++_}
 use native.Mathlib.Nat.{zero-mod}
 use native.Mathlib.Omega.{arith}
-use lib.ListN.{length, length-append, length-replicate}
+use lib.ListN.{length-append, length-replicate}
 use lib.Dec.{lit<}
 use Rattle.rules.specs.World.{Row, Event, World, bit, number}
 use Rattle.rules.specs.Device.{Widths, m95128d, prepared}
-use Rattle.rules.specs.Judge.{storable}
 use Rattle.rules.specs.Event.{next, after}
 use Rattle.rules.specs.Sound.{Sound, Lent}
 use Rattle.rules.specs.Examples.{bitsIn}
@@ -30,7 +29,7 @@ prepared-sound {row} v =
             input = record { few = omega arith; small = lit< tt; counted = omega arith };
             inside = omega (arith, page-below v);
             stored = nothing (row .srwd);
-            page = record { lockable = λ e. clash (sym e); named = λ e. clash (sym e) };
+            page = record { lockable = λ e. clash (sym e); instruction = λ e. clash (sym e) };
             cycle =
                 record {
                   only = nothing (row .srwd);
@@ -39,7 +38,7 @@ prepared-sound {row} v =
                   aligned = zero-mod (row .page);
                   inside = omega (arith, page-below v);
                   first = λ _. refl;
-                  paged = λ e. clash (sym e);
+                  hasPage = λ e. clash (sym e);
                 };
             off = λ _. record { held = refl; bits = refl; bytes = refl; z = refl };
             low = λ e. clash (sym e);
@@ -50,6 +49,7 @@ prepared-sound {row} v =
       holds = λ e. clash (sym e);
     }
   where
+    -- Over the flag alone, since a row cannot be split on: what `storable` makes of 0.
     nothing : (b : Bool) → _≡_ {A = ℕ} (number (b && bit 0 7) * 128 + 0 / 4 % 4 * 4) 0
     nothing true = refl
     nothing false = refl

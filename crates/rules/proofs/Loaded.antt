@@ -81,7 +81,7 @@ loaded-sound {row} v x cells identification latch marks own =
             input = p .input;
             inside = p .inside;
             stored = own .bits;
-            page = record { lockable = own .lockable; named = λ e. clash (sym e) };
+            page = record { lockable = own .lockable; instruction = λ e. clash (sym e) };
             cycle = p .cycle;
             off = p .off;
             low = λ e. clash (sym e);

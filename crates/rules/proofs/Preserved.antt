@@ -1,7 +1,7 @@
 -- The theorem `preserved`: every event keeps a sound world sound, and its lists as long as they were.
 use Prim.Native.Nat.{ℕ, _+_, _*_, _≤_, _<_}
 use mathlib.Core.Path.{_≡_, refl, sym, ap, _∙_}
-use mathlib.Core.Bool.{Bool, true, false, not, _&&_, _||_}
+use mathlib.Core.Bool.{Bool, true, false, not, _&&_}
 use mathlib.Core.List.{List, [], _∷_}
 use native.Mathlib.Omega.{arith}
 use lib.ListN.{length, getD}
@@ -82,8 +82,8 @@ module _ {row : Row} (v : Widths row) (w : World) (h : Unsettled row w) (l : Len
         page =
             record {
               lockable = h .page .lockable;
-              named = if-elim (λ (c : Command). facts (c .instruction) .identifies ≡ true → hasIdentification row ≡ true) (d && t)
-                  (λ _. command-named row b s (h .page .named)) (λ _. h .page .named);
+              instruction = if-elim (λ (c : Command). facts (c .instruction) .identifies ≡ true → hasIdentification row ≡ true) (d && t)
+                  (λ _. command-named row b s (h .page .instruction)) (λ _. h .page .instruction);
             };
         cycle = h .cycle;
         off = λ o. let f = h .off o in record { held = f .held; bits = rw o (f .bits); bytes = rw o (f .bytes); z = f .z };
@@ -172,7 +172,7 @@ module _ {row : Row} (v : Widths row) (w : World) (h : Unsettled row w) where
         input = none-received 0;
         inside = omega (arith, page-below v);
         stored = h .stored;
-        page = record { lockable = h .page .lockable; named = λ e. clash (sym e) };
+        page = record { lockable = h .page .lockable; instruction = λ e. clash (sym e) };
         cycle = h .cycle;
         off = λ o. clash o;
         low = λ _. refl;
@@ -216,8 +216,8 @@ module _ (row : Row) (w : World) (n : ℕ) where
             record {
               lockable =
                   or-elim (s .registers .locked) (ends && changes (s .cycle .kind) .lock) (h .page .lockable)
-                  (λ e. h .cycle .paged (or-right (changes (s .cycle .kind) .identification) (changes (s .cycle .kind) .lock) (and-right ends (changes (s .cycle .kind) .lock) e)));
-              named = h .page .named;
+                  (λ e. h .cycle .hasPage (or-right (changes (s .cycle .kind) .identification) (changes (s .cycle .kind) .lock) (and-right ends (changes (s .cycle .kind) .lock) e)));
+              instruction = h .page .instruction;
             };
         cycle = left-sound w n ends (busy s) (s .cycle .kind) refl refl (h .cycle);
         off = h .off;

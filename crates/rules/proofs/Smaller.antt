@@ -111,4 +111,8 @@ m95128-82h-clears-no-marks = refl
 
 pub examples-202 : Hold spec.examples-202
 examples-202 =
-    m95010-wren-0e and m95020-wren-0e and m95128-no-wren-0e and m95010-write-0a and m95020-write-0a and m95010-one-cell and m95010-read-goes-on and m95020-read-goes-on and m95128-read-goes-on and m95010-page and m95020-page and m95128-page and m95010-status and m95020-status and m95128-status and m95010-upper-quarter and m95020-upper-quarter and m95128-upper-quarter and m95010-w-low and m95020-w-low and m95128-w-low and m95010-no-page and m95020-no-page and m95128-83h-sends-nothing and m95128-82h-starts-nothing and m95128-82h-clears-no-marks and none
+    m95010-wren-0e and m95020-wren-0e and m95128-no-wren-0e and m95010-write-0a and m95020-write-0a and m95010-one-cell
+    and m95010-read-goes-on and m95020-read-goes-on and m95128-read-goes-on and m95010-page and m95020-page and m95128-page
+    and m95010-status and m95020-status and m95128-status and m95010-upper-quarter and m95020-upper-quarter and m95128-upper-quarter
+    and m95010-w-low and m95020-w-low and m95128-w-low and m95010-no-page and m95020-no-page and m95128-83h-sends-nothing
+    and m95128-82h-starts-nothing and m95128-82h-clears-no-marks and none

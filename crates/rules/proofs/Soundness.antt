@@ -95,7 +95,7 @@ module _ (row : Row) (w : World) where
               page =
                   record {
                     lockable = implied (s .registers .locked) (hasIdentification row) (of-page .0);
-                    named = implied (facts (s .command .instruction) .identifies) (hasIdentification row) (of-page .1 .1 .0);
+                    instruction = implied (facts (s .command .instruction) .identifies) (hasIdentification row) (of-page .1 .1 .0);
                   };
               cycle =
                   record {
@@ -105,7 +105,7 @@ module _ (row : Row) (w : World) where
                     aligned = eqb-true (s .place .start % row .page) 0 (h₅ .1 .1 .0);
                     inside = ltb-true (s .place .start) (row .cells) (h₅ .1 .1 .1 .0);
                     first = λ k. eqb-true (s .place .start) 0 (implied (changes (s .cycle .kind) .identification) (eqb (s .place .start) 0) (h₅ .1 .1 .1 .1 .0) k);
-                    paged = implied (ofPage (s .cycle .kind)) (hasIdentification row) (of-page .1 .0);
+                    hasPage = implied (ofPage (s .cycle .kind)) (hasIdentification row) (of-page .1 .0);
                   };
               off = λ o.
                   record {
@@ -176,9 +176,9 @@ module _ (row : Row) (w : World) where
                                           (
                                             implying (s .registers .locked) (hasIdentification row) (h .page .lockable),
                                             (
-                                              implying (ofPage (s .cycle .kind)) (hasIdentification row) (h .cycle .paged),
+                                              implying (ofPage (s .cycle .kind)) (hasIdentification row) (h .cycle .hasPage),
                                               (
-                                                implying (facts (s .command .instruction) .identifies) (hasIdentification row) (h .page .named),
+                                                implying (facts (s .command .instruction) .identifies) (hasIdentification row) (h .page .instruction),
                                                 (
                                                   marks-of (drop (row .page) (w .latch)) (λ i. rw (getD-drop (row .page) (w .latch) i 0) (h .marks i)),
                                                   tt,

@@ -51,7 +51,7 @@ module _ {row : Row} (v : Widths row) (w : World) (h : Unsettled row w) where
         aligned = t .0;
         inside = t .1;
         first = t .2;
-        paged = λ e. h .page .named (page-form (w .state .command .instruction) .1 (ap ofPage (sym g) ∙ e));
+        hasPage = λ e. h .page .instruction (page-form (w .state .command .instruction) .1 (ap ofPage (sym g) ∙ e));
       }
 
 -- Written bytes are as many as before.
@@ -77,7 +77,7 @@ module _ {row : Row} (w : World) (n : ℕ) where
         aligned = h .aligned;
         inside = h .inside;
         first = λ r. clash (sym r);
-        paged = λ r. clash (sym r);
+        hasPage = λ r. clash (sym r);
       }
   left-sound false b k e f h =
       let long : b ≡ true → n < w .state .place .left = λ r. leb-false (w .state .place .left) n (and-rest b (leb (w .state .place .left) n) e r) in
@@ -88,5 +88,5 @@ module _ {row : Row} (w : World) (n : ℕ) where
         aligned = h .aligned;
         inside = h .inside;
         first = h .first;
-        paged = h .paged;
+        hasPage = h .hasPage;
       }

@@ -125,6 +125,10 @@ lid-left-without-a-page : Gives spec.lid-left-without-a-page
 unfolding calls
 lid-left-without-a-page = refl
 
+rdid-selected-without-a-page : Gives spec.rdid-selected-without-a-page
+unfolding calls
+rdid-selected-without-a-page = refl
+
 write-left-without-a-page : Gives spec.write-left-without-a-page
 unfolding calls
 write-left-without-a-page = refl
@@ -137,4 +141,5 @@ unsound =
     and level-and-not-selected and selected-with-s-high and w-low-and-not-seen and held-with-hold-high and not-held-with-hold-low
     and read-taken-in-a-cycle and sound-at-its-edges
     and locked-without-a-page and identification-cycle-without-a-page and lock-cycle-without-a-page and rdid-left-without-a-page
-    and rdls-left-without-a-page and wrid-left-without-a-page and lid-left-without-a-page and write-left-without-a-page and none
+    and rdls-left-without-a-page and wrid-left-without-a-page and lid-left-without-a-page and rdid-selected-without-a-page
+    and write-left-without-a-page and none

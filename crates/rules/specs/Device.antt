@@ -35,7 +35,7 @@ isDevice n = leb 1 n && leb n (length table)
 abbrev pub rowOf : ℕ → Row
 rowOf n = getD table (n - 1) m95040
 
--- What 01 says of device 1 in codes, in W and in the lock bit holds where the address is one byte.
+-- What 01 says of device 1 in W, in the lock bit and, but for A8, in codes holds where the address is one byte.
 abbrev pub single : Row → Bool
 single row = eqb (row .width) 1
 

@@ -192,7 +192,7 @@ protect-low-and-write = (1, wren ∷ events (Event.Protect false ∷ []) ∷ say
 abbrev pub unknown-code : Line
 unknown-code = (2, ask (0x00 ∷ 0x05 ∷ []) 1 ∷ ask (0x00 ∷ 0x00 ∷ 0x05 ∷ []) 1 ∷ [], silence ∷ silence ∷ [])
 
--- Address bits above the array are of no account: C005h is cell 5 of the M95128.
+-- Address bits above the array are of no account: C005h is cell 5 of the M95128-D.
 abbrev pub address-above-the-array : Line
 address-above-the-array = (2, wren ∷ say (0x02 ∷ 0xC0 ∷ 0x05 ∷ 0x66 ∷ []) ∷ full ∷ cell 5 ∷ [], 0x66 ∷ [])
 

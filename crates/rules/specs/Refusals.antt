@@ -164,7 +164,7 @@ abbrev pub event-power-in-a-cycle : Line
 event-power-in-a-cycle = event 1 inCycle Event.Power (repliedAs 11 2 inCycle)
 
 -- W-202: an identification byte where there is no page. And the codes as their eighth bit comes in: 0Bh on the M95020 is READ and its address
--- starts from 0, where the M95040 starts from A8; 83h is as unknown on the M95128 in a cycle as out of it, and turned away.
+-- starts from 0, where the M95040 starts from A8; 83h is as unknown there in a cycle as out of it, and turned away.
 abbrev small : World
 small = lent (replicate 256 7) [] (replicate 32 1)
 
@@ -196,13 +196,13 @@ event-no-a8 =
     event 6 (withState (coding 0x05 preparedState) small) (Event.Clock true)
     (repliedAs 0 2 (withState (coded 0x0B 0 Instruction.Read false preparedState) small))
 
-abbrev written : State
-written = withStored (record { status = 0; wel = true; locked = false }) (record { kind = Kind.Array; next = 0 }) 0 1 preparedState
+abbrev writing : State
+writing = withStored (record { status = 0; wel = true; locked = false }) (record { kind = Kind.Array; next = 0 }) 0 1 preparedState
 
 abbrev pub event-83h-in-a-cycle : Line
 event-83h-in-a-cycle =
-    event 6 (withState (coding 0x41 written) small) (Event.Clock true)
-    (repliedAs 0 2 (withState (coded 0x83 0 Instruction.Unknown true written) small))
+    event 6 (withState (coding 0x41 writing) small) (Event.Clock true)
+    (repliedAs 0 2 (withState (coded 0x83 0 Instruction.Unknown true writing) small))
 
 -- Records.
 abbrev pin : ℕ → List ℕ

@@ -84,7 +84,7 @@ Unseen {row} {w} {es} {ks} c =
 abbrev pub Demand3 : Type 0
 Demand3 = (row : Row) → Widths row → (w : World) → Sound row w → Lent row w → (es ks : List Event) (c : Cut row w es ks) → Unseen c
 
--- The incident: WREN, a WRITE to the M95128 with one clock too many, then a READ; and the same with that WRITE's Chip Select events taken out.
+-- The incident: WREN, a WRITE to the M95128-D with one clock too many, then a READ; and the same with that WRITE's Chip Select events taken out.
 abbrev pub enabling : List Event
 enabling = Event.Select false ∷ bytesIn (0x06 ∷ []) ++ Event.Select true ∷ []
 

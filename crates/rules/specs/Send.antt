@@ -18,7 +18,7 @@ byteOf s cells identification Source.Lock a = number (s .registers .locked)
 abbrev goes : Bool → ℕ → Bool → Going
 goes sends after past = record { sends = sends; after = after; past = past }
 
--- READ goes on from the last cell to cell 0; RDID stays at the page's length; the status and the lock repeat.
+-- READ goes on from the last cell to cell 0; RDID stays at the identification page's end; the status and the lock repeat.
 abbrev pub going : Row → Source → ℕ → Going
 going row Source.Silent a = goes false a false
 going row Source.Status a = goes true a false

@@ -56,7 +56,8 @@ selectedClauses s =
     ∷ (s .selection .selected implies s .pins .c || Bool·beq (s .selection .held) (not (s .pins .hold)))
     ∷ []
 
--- W-202: without an identification page nothing is of it: no lock, no running cycle, and no instruction, in a deselected state too.
+-- W-202: where there is no identification page nothing of it is there: no lock, no cycle that writes or locks it, and no instruction of it,
+-- in a deselected state either.
 abbrev pub ofPage : Kind → Bool
 ofPage k = changes k .identification || changes k .lock
 
@@ -87,12 +88,12 @@ pub record SoundCycle (row : Row) (k : Kind) (next start left : ℕ) : Type 0 wh
   pub aligned : start % row .page ≡ 0
   pub inside : start < row .cells
   pub first : changes k .identification ≡ true → start ≡ 0
-  pub paged : ofPage k ≡ true → hasIdentification row ≡ true
+  pub hasPage : ofPage k ≡ true → hasIdentification row ≡ true
 
 -- A lock, and an instruction of the identification page, are there only with that page.
 pub record SoundPage (row : Row) (locked : Bool) (i : Instruction) : Type 0 where
   pub lockable : locked ≡ true → hasIdentification row ≡ true
-  pub named : facts i .identifies ≡ true → hasIdentification row ≡ true
+  pub instruction : facts i .identifies ≡ true → hasIdentification row ≡ true
 
 pub record Off (x : Selection) (i : Input) (o : Output) : Type 0 where
   pub held : x .held ≡ false

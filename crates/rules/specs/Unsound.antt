@@ -108,36 +108,40 @@ sound-at-its-edges =
     event 1 (withState (reading (busy 5000) true) good) (Event.Clock true) (repliedAs 0 2 (withState (reading (busy 5000) true) good))
 
 -- W-202, without an identification page: nothing of it may be there. Not selected and all else at rest, a lock, a cycle of the page, or an
--- instruction of it that a device with a page had left; what another command left is taken.
+-- instruction of it that a device with a page had left; nor such an instruction in a selection. What another command left is taken.
 abbrev plain : State → World
 plain s = worldOf s (replicate 16_384 7) [] (replicate 128 1)
 
-abbrev unlikely : State → Line
-unlikely s = event 7 (plain s) (Event.Data true) (repliedAs 5 2 (plain s))
+abbrev refusedThere : State → Line
+refusedThere s = event 7 (plain s) (Event.Data true) (repliedAs 5 2 (plain s))
 
 abbrev left : Instruction → State
 left i = withSelection 0 (preparedState .selection) (preparedState .input) (record { instruction = i; away = false }) (preparedState .output) preparedState
 
 abbrev pub locked-without-a-page : Line
-locked-without-a-page = unlikely (withStored (record { status = 0; wel = false; locked = true }) (preparedState .cycle) 0 0 preparedState)
+locked-without-a-page = refusedThere (withStored (record { status = 0; wel = false; locked = true }) (preparedState .cycle) 0 0 preparedState)
 
 abbrev pub identification-cycle-without-a-page : Line
-identification-cycle-without-a-page = unlikely (stored 0 0 Kind.Identification 0 5000)
+identification-cycle-without-a-page = refusedThere (stored 0 0 Kind.Identification 0 5000)
 
 abbrev pub lock-cycle-without-a-page : Line
-lock-cycle-without-a-page = unlikely (stored 0 0 Kind.Lock 0 5000)
+lock-cycle-without-a-page = refusedThere (stored 0 0 Kind.Lock 0 5000)
 
 abbrev pub rdid-left-without-a-page : Line
-rdid-left-without-a-page = unlikely (left Instruction.Rdid)
+rdid-left-without-a-page = refusedThere (left Instruction.Rdid)
 
 abbrev pub rdls-left-without-a-page : Line
-rdls-left-without-a-page = unlikely (left Instruction.Rdls)
+rdls-left-without-a-page = refusedThere (left Instruction.Rdls)
 
 abbrev pub wrid-left-without-a-page : Line
-wrid-left-without-a-page = unlikely (left Instruction.Wrid)
+wrid-left-without-a-page = refusedThere (left Instruction.Wrid)
 
 abbrev pub lid-left-without-a-page : Line
-lid-left-without-a-page = unlikely (left Instruction.Lid)
+lid-left-without-a-page = refusedThere (left Instruction.Lid)
+
+abbrev pub rdid-selected-without-a-page : Line
+rdid-selected-without-a-page =
+    refusedThere (withSelection 0 (chosen .selection) (chosen .input) (record { instruction = Instruction.Rdid; away = false }) (chosen .output) chosen)
 
 abbrev pub write-left-without-a-page : Line
 write-left-without-a-page = event 7 (plain (left Instruction.Write)) (Event.Select true) (repliedAs 0 2 (plain (left Instruction.Write)))
@@ -149,4 +153,5 @@ unsound =
     ∷ start-past-the-cells ∷ identification-cycle-elsewhere ∷ held-and-not-selected ∷ bit-and-not-selected ∷ byte-and-not-selected
     ∷ level-and-not-selected ∷ selected-with-s-high ∷ w-low-and-not-seen ∷ held-with-hold-high ∷ not-held-with-hold-low ∷ read-taken-in-a-cycle
     ∷ sound-at-its-edges ∷ locked-without-a-page ∷ identification-cycle-without-a-page ∷ lock-cycle-without-a-page
-    ∷ rdid-left-without-a-page ∷ rdls-left-without-a-page ∷ wrid-left-without-a-page ∷ lid-left-without-a-page ∷ write-left-without-a-page ∷ []
+    ∷ rdid-left-without-a-page ∷ rdls-left-without-a-page ∷ wrid-left-without-a-page ∷ lid-left-without-a-page ∷ rdid-selected-without-a-page
+    ∷ write-left-without-a-page ∷ []

@@ -90,7 +90,7 @@ pub fn is_device(device: u8) -> bool
     (1 <= device) & (device <= 7)
 }
 
-// The row of a device; of a number that is no device's, the first.
+// The row of a device; of a number that is no device's, the first. A match and no array: a constant array is built anew at each look.
 pub fn row_of(device: u8) -> Row
     ensures { λ r. ⌜ r ≡ rowOf device ⌝ }
 {

@@ -48,7 +48,7 @@ pub has-page : {row : Row} → Widths row → (k : Kind) {next start left : ℕ}
     → (long : Bool) → (c .runs && long && c .identification) ≡ true → row .identification ≡ row .page
 has-page v k h {c} ec long e =
     let of = ap (λ (x : Change). x .identification) (sym ec) ∙ and-right (c .runs && long) (c .identification) e in
-    v .whole (h .paged (or-left (changes k .identification) (changes k .lock) of))
+    v .whole (h .hasPage (or-left (changes k .identification) (changes k .lock) of))
 
 -- The lists after a wait, by what the cycle changes.
 module _ (row : Row) (s t : State) (n : ℕ) (cells identification latch : List ℕ) (c : Change) (ec : c ≡ changes (s .cycle .kind)) (et : t ≡ waitedState n s) where

@@ -31,7 +31,7 @@ struct Usual {
 
 /// Devices that joined the table together. Others may refer to a vector by its place, so those of later devices stand
 /// behind all the earlier ones of the file.
-struct Landing {
+struct Joined {
     devices: &'static [Device],
     /// Profiles with few generated vectors, where those made by hand leave no room: a file has to stay short.
     few: &'static [Profile],
@@ -39,14 +39,14 @@ struct Landing {
     before_tail: usize,
 }
 
-/// The base, then the smaller boards.
-static LANDINGS: [Landing; 2] = [
-    Landing {
+/// Document 01's devices, then those of W-202.
+static JOINED: [Joined; 2] = [
+    Joined {
         devices: DEVICES.split_at(4).0,
         few: &[],
         before_tail: 300,
     },
-    Landing {
+    Joined {
         devices: DEVICES.split_at(4).1,
         few: &[Profile::Commands, Profile::Waits, Profile::Mixed],
         before_tail: 200,
@@ -61,8 +61,8 @@ fn main() -> ExitCode {
     };
     for profile in Profile::ALL {
         let mut file = Vec::new();
-        let of_landing = |landing: &Landing| landing.vectors(profile);
-        let vectors: Vec<Vector> = LANDINGS.iter().flat_map(of_landing).collect();
+        let vectors = JOINED.iter().flat_map(|joined| joined.vectors(profile));
+        let vectors: Vec<Vector> = vectors.collect();
         for vector in &vectors {
             vector.append_to(&mut file);
         }
@@ -81,7 +81,7 @@ fn main() -> ExitCode {
     ExitCode::SUCCESS
 }
 
-impl Landing {
+impl Joined {
     fn vectors(&self, profile: Profile) -> Vec<Vector> {
         if profile == Profile::Malformed {
             return (0..TAILS).map(|which| self.malformed(which)).collect();

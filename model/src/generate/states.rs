@@ -4,7 +4,8 @@
 use crate::device::{Device, DEVICES};
 use crate::state::{Cycle, Instruction, State};
 
-const INSTRUCTIONS: [Instruction; 11] = [
+/// Every instruction.
+pub const INSTRUCTIONS: [Instruction; 11] = [
     Instruction::Unknown,
     Instruction::Wren,
     Instruction::Wrdi,

@@ -12,17 +12,23 @@ fill-requires c κs = search needs
 slice-write-page : tie.Need-slice-write-page
 slice-write-page c =
     let start = c .before .before .before .before .before .before in
-    omega (arith, code-room (start .args .row) (c .if1 .taken) (start .pre .0 .codeFits), start .pre .1, length-fill (length (start .args .page .now)) (c .before .before .before .fill .ensures))
+    let room = code-room (start .args .row) (c .if1 .taken) (start .pre .0 .codeFits) in
+    let long = length-fill (length (start .args .page .now)) (c .before .before .before .fill .ensures) in
+    omega (arith, room, start .pre .1, long)
 
 slice-write-page-2 : tie.Need-slice-write-page-2
 slice-write-page-2 c =
     let start = c .before .before .before .before .before .before in
-    simp length-set (omega (arith, code-room (start .args .row) (c .if1 .taken) (start .pre .0 .codeFits), start .pre .1, length-fill (length (start .args .page .now)) (c .before .before .before .fill .ensures)))
+    let room = code-room (start .args .row) (c .if1 .taken) (start .pre .0 .codeFits) in
+    let long = length-fill (length (start .args .page .now)) (c .before .before .before .fill .ensures) in
+    simp length-set (omega (arith, room, start .pre .1, long))
 
 slice-write-page-3 : tie.Need-slice-write-page-3
 slice-write-page-3 c =
     let start = c .before .before .before .before .before .before in
-    simp length-set (omega (arith, code-room (start .args .row) (c .if1 .taken) (start .pre .0 .codeFits), start .pre .1, length-fill (length (start .args .page .now)) (c .before .before .before .fill .ensures)))
+    let room = code-room (start .args .row) (c .if1 .taken) (start .pre .0 .codeFits) in
+    let long = length-fill (length (start .args .page .now)) (c .before .before .before .fill .ensures) in
+    simp length-set (omega (arith, room, start .pre .1, long))
 
 same-length : tie.Need-same-length
 same-length c = search needs
