@@ -36,10 +36,6 @@ prepare-the-m95020 : spec.Gives spec.prepare-the-m95020
 unfolding calls
 prepare-the-m95020 = refl
 
-prepare-the-m95128 : spec.Gives spec.prepare-the-m95128
-unfolding calls
-prepare-the-m95128 = refl
-
 prepare-a-page-where-there-is-none : spec.Gives spec.prepare-a-page-where-there-is-none
 unfolding calls
 prepare-a-page-where-there-is-none = refl
@@ -343,7 +339,7 @@ first-device-zero = refl
 pub refusals : spec.Given spec.refusals
 refusals =
     prepare-taken and prepare-device-eight and prepare-device-zero and prepare-cells and prepare-identification and prepare-latch
-    and prepare-the-m95010 and prepare-the-m95020 and prepare-the-m95128 and prepare-a-page-where-there-is-none and load-all-bits and load-nothing
+    and prepare-the-m95010 and prepare-the-m95020 and prepare-a-page-where-there-is-none and load-all-bits and load-nothing
     and load-no-device and load-no-srwd and load-wel and load-above-a-byte and load-lock and load-without-a-page
     and load-lock-without-a-page and stored-in-a-status-cycle and stored-in-a-lock-cycle and stored-lock and event-taken and event-device
     and event-cells and event-identification and event-latch and event-mark and event-power-in-a-cycle and event-a-page-where-there-is-none

@@ -49,15 +49,12 @@ prepare-identification = prepare 1 (replicate 512 7) (8 ∷ []) (9 ∷ []) (prep
 abbrev pub prepare-latch : Line
 prepare-latch = prepare 1 (replicate 512 7) (replicate 16 8) (replicate 16 9) (preparedAs 4 (lent (replicate 512 7) (replicate 16 8) (replicate 16 9)))
 
--- W-202: the smaller boards are prepared as they are, with no identification byte; any such byte is refused.
+-- W-202: the two smallest boards are prepared with no identification byte, and any such byte is refused; `Unsound` has the M95128's lengths.
 abbrev pub prepare-the-m95010 : Line
 prepare-the-m95010 = prepare 5 (replicate 128 0) [] (replicate 32 9) (preparedAs 0 (lent (replicate 128 0xFF) [] (replicate 32 0)))
 
 abbrev pub prepare-the-m95020 : Line
 prepare-the-m95020 = prepare 6 (replicate 256 0) [] (replicate 32 9) (preparedAs 0 (lent (replicate 256 0xFF) [] (replicate 32 0)))
-
-abbrev pub prepare-the-m95128 : Line
-prepare-the-m95128 = prepare 7 (replicate 16_384 0) [] (replicate 128 9) (preparedAs 0 (lent (replicate 16_384 0xFF) [] (replicate 128 0)))
 
 abbrev pub prepare-a-page-where-there-is-none : Line
 prepare-a-page-where-there-is-none =
@@ -416,7 +413,7 @@ first-device-zero = first (3 ∷ 0 ∷ 16 ∷ 0 ∷ 0 ∷ []) (firstAs 1 0)
 abbrev pub refusals : List Line
 refusals =
     prepare-taken ∷ prepare-device-eight ∷ prepare-device-zero ∷ prepare-cells ∷ prepare-identification ∷ prepare-latch ∷ prepare-the-m95010
-    ∷ prepare-the-m95020 ∷ prepare-the-m95128 ∷ prepare-a-page-where-there-is-none ∷ load-all-bits
+    ∷ prepare-the-m95020 ∷ prepare-a-page-where-there-is-none ∷ load-all-bits
     ∷ load-nothing ∷ load-no-device ∷ load-no-srwd ∷ load-wel ∷ load-above-a-byte ∷ load-lock ∷ load-without-a-page ∷ load-lock-without-a-page ∷ stored-in-a-status-cycle
     ∷ stored-in-a-lock-cycle ∷ stored-lock ∷ event-taken
     ∷ event-device ∷ event-cells ∷ event-identification ∷ event-latch ∷ event-mark ∷ event-power-in-a-cycle ∷ event-a-page-where-there-is-none

@@ -1,5 +1,5 @@
 -- 01, "The device's state", by example: each clause of soundness broken alone, which gets 5 and changes nothing; and a state at the edge of every
--- clause, which is taken. Each line is an event on an M95040, and those on W-202's clauses one on an M95128.
+-- clause, which is taken. Each line is an event on an M95040, and those on W-202's clauses one on a device without an identification page.
 use Rattle.rules.specs.World.{ℕ, Bool, true, false, List, [], _∷_, replicate, Instruction, Kind, Level, Event, State, World, worldOf, withPins, withSelection, withStored, withState}
 use Rattle.rules.specs.Device.{preparedState}
 use Rattle.rules.specs.Call.{repliedAs}
@@ -108,18 +108,25 @@ sound-at-its-edges =
     event 1 (withState (reading (busy 5000) true) good) (Event.Clock true) (repliedAs 0 2 (withState (reading (busy 5000) true) good))
 
 -- W-202, without an identification page: nothing of it may be there. Not selected and all else at rest, a lock, a cycle of the page, or an
--- instruction of it that a device with a page had left; nor such an instruction in a selection. What another command left is taken.
+-- instruction of it that a device with a page had left; nor such an instruction in a selection. What another command left is taken. The lock and
+-- RDID stand in the state of an M95128, where an M95128-D can leave them; the rest in that of an M95010, which is quicker to compute.
+abbrev small : State → World
+small s = worldOf s (replicate 128 7) [] (replicate 32 1)
+
+abbrev refusedThere : State → Line
+refusedThere s = event 5 (small s) (Event.Data true) (repliedAs 5 2 (small s))
+
 abbrev plain : State → World
 plain s = worldOf s (replicate 16_384 7) [] (replicate 128 1)
 
-abbrev refusedThere : State → Line
-refusedThere s = event 7 (plain s) (Event.Data true) (repliedAs 5 2 (plain s))
+abbrev refusedPlain : State → Line
+refusedPlain s = event 7 (plain s) (Event.Data true) (repliedAs 5 2 (plain s))
 
 abbrev left : Instruction → State
 left i = withSelection 0 (preparedState .selection) (preparedState .input) (record { instruction = i; away = false }) (preparedState .output) preparedState
 
 abbrev pub locked-without-a-page : Line
-locked-without-a-page = refusedThere (withStored (record { status = 0; wel = false; locked = true }) (preparedState .cycle) 0 0 preparedState)
+locked-without-a-page = refusedPlain (withStored (record { status = 0; wel = false; locked = true }) (preparedState .cycle) 0 0 preparedState)
 
 abbrev pub identification-cycle-without-a-page : Line
 identification-cycle-without-a-page = refusedThere (stored 0 0 Kind.Identification 0 5000)
@@ -128,7 +135,7 @@ abbrev pub lock-cycle-without-a-page : Line
 lock-cycle-without-a-page = refusedThere (stored 0 0 Kind.Lock 0 5000)
 
 abbrev pub rdid-left-without-a-page : Line
-rdid-left-without-a-page = refusedThere (left Instruction.Rdid)
+rdid-left-without-a-page = refusedPlain (left Instruction.Rdid)
 
 abbrev pub rdls-left-without-a-page : Line
 rdls-left-without-a-page = refusedThere (left Instruction.Rdls)
@@ -144,7 +151,7 @@ rdid-selected-without-a-page =
     refusedThere (withSelection 0 (chosen .selection) (chosen .input) (record { instruction = Instruction.Rdid; away = false }) (chosen .output) chosen)
 
 abbrev pub write-left-without-a-page : Line
-write-left-without-a-page = event 7 (plain (left Instruction.Write)) (Event.Select true) (repliedAs 0 2 (plain (left Instruction.Write)))
+write-left-without-a-page = event 5 (small (left Instruction.Write)) (Event.Select true) (repliedAs 0 2 (small (left Instruction.Write)))
 
 abbrev pub unsound : List Line
 unsound =
