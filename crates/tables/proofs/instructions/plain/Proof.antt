@@ -1,8 +1,8 @@
--- `tables::plain` meets its contract.
+-- `tables::instructions::plain` meets its contract.
 use Rattle.tables.proofs.Looks.{plain-one, plain-more}
 use borrow.Author.Needs.{needs}
-use Rattle.tables.proofs.plain.Statement.{statement}
-use Rattle.tables.proofs.plain.Tie as tie
+use Rattle.tables.proofs.instructions.plain.Statement.{statement}
+use Rattle.tables.proofs.instructions.plain.Tie as tie
 
 without-bit-3-requires : tie.Need-without-bit-3-requires
 without-bit-3-requires c κs = search needs

@@ -1,9 +1,9 @@
--- `tables::facts` meets its contract.
+-- `tables::instructions::facts` meets its contract.
 use Rattle.rules.specs.Instruction.{facts}
 use Rattle.tables.proofs.Looks.{arm}
 use borrow.Author.Needs.{needs}
-use Rattle.tables.proofs.facts.Statement.{statement}
-use Rattle.tables.proofs.facts.Tie as tie
+use Rattle.tables.proofs.instructions.facts.Statement.{statement}
+use Rattle.tables.proofs.instructions.facts.Tie as tie
 
 enum-told : tie.Need-enum-told
 enum-told c = search needs

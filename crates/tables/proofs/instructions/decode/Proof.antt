@@ -1,8 +1,8 @@
--- `tables::decode` meets its contract.
+-- `tables::instructions::decode` meets its contract.
 use Rattle.tables.proofs.Looks.{decode-none, decode-named}
 use borrow.Author.Needs.{needs}
-use Rattle.tables.proofs.decode.Statement.{statement}
-use Rattle.tables.proofs.decode.Tie as tie
+use Rattle.tables.proofs.instructions.decode.Statement.{statement}
+use Rattle.tables.proofs.instructions.decode.Tie as tie
 
 name-of-requires : tie.Need-name-of-requires
 name-of-requires c κs = search needs

@@ -1,7 +1,7 @@
--- `tables::row_of` meets its contract.
+-- `tables::devices::row_of` meets its contract.
 use Rattle.tables.proofs.Looks.{first-row}
-use Rattle.tables.proofs.row_of.Statement.{statement}
-use Rattle.tables.proofs.row_of.Tie as tie
+use Rattle.tables.proofs.devices.row_of.Statement.{statement}
+use Rattle.tables.proofs.devices.row_of.Tie as tie
 
 returns : tie.Need-returns
 returns c = rw (c .match .keys1)

@@ -1,9 +1,9 @@
--- `tables::changes` meets its contract.
+-- `tables::cycles::changes` meets its contract.
 use Rattle.rules.specs.Instruction.{changes}
 use Rattle.tables.proofs.Looks.{arm}
 use borrow.Author.Needs.{needs}
-use Rattle.tables.proofs.changes.Statement.{statement}
-use Rattle.tables.proofs.changes.Tie as tie
+use Rattle.tables.proofs.cycles.changes.Statement.{statement}
+use Rattle.tables.proofs.cycles.changes.Tie as tie
 
 enum-told : tie.Need-enum-told
 enum-told c = search needs

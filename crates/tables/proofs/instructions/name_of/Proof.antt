@@ -1,11 +1,11 @@
--- `tables::name_of` meets its contract.
+-- `tables::instructions::name_of` meets its contract.
 use mathlib.Core.Path.{_≡_}
 use Rattle.rules.specs.declared.Instruction.{Instruction}
 use Rattle.rules.specs.Instruction.{named}
 use Rattle.tables.proofs.Looks.{named-rdid, named-wrid, plainly, named-plain, plain-none}
 use borrow.Author.Needs.{needs}
-use Rattle.tables.proofs.name_of.Statement.{statement}
-use Rattle.tables.proofs.name_of.Tie as tie
+use Rattle.tables.proofs.instructions.name_of.Statement.{statement}
+use Rattle.tables.proofs.instructions.name_of.Tie as tie
 
 returns : tie.Need-returns
 returns c = named-rdid (c .before .args .row) (c .before .args .code) (c .if1 .taken)
