@@ -1,41 +1,22 @@
 -- What masks and shifts are as numbers: over the width, or over all bytes by a computed test.
 use Prim.Native.Nat.{ℕ, zero, suc, _+_, _-_, _*_, _/_, _%_, _^_, _≤_, _<_}
 use mathlib.Core.Path.{_≡_, refl, sym, ap, subst}
-use mathlib.Core.Bool.{Bool, true, false, not, _&&_, _||_}
-use mathlib.Core.Logic.{⊎-elim}
-use native.Mathlib.Nat.{mod-eq-of-lt, eq-or-lt-of-le, le-of-suc-le-suc, not-suc-le-zero}
+use mathlib.Core.Bool.{Bool, true, false, _&&_}
+use native.Mathlib.Nat.{mod-eq-of-lt}
 use native.Mathlib.Omega.{arith}
 use lib.Pow.{pow-mono}
 use lib.Bits.{bitAnd, bitOr, and-mask, or-shifted, or-shifted-r}
-use lib.Dec.{T, eqb, eqb→eq}
+use lib.Dec.{eqb}
 use mir.Val.{boolByte}
-use borrow.Author.Tests.{eq-eqb}
+use borrow.Author.Tests.{eqb-true, eq-eqb}
 use Rattle.rules.specs.declared.Row.{Row}
 use Rattle.rules.specs.World.{bit, number}
 use Rattle.rules.specs.Device.{Widths}
 use Rattle.rules.specs.Instruction.{longer}
 use Rattle.rules.specs.Receive.{rolled}
 use Rattle.rules.specs.Judge.{storable}
-
--- Every number below n passes a test.
-abbrev below : ℕ → (ℕ → Bool) → Bool
-below zero p = true
-below (suc n) p = p n && below n p
-
-and-left : (a b : Bool) → T (a && b) → T a
-and-left true b t = tt
-and-left false b t = t
-
-and-right : (a b : Bool) → T (a && b) → T b
-and-right true b t = t
-and-right false b t = absurd t
-
-passes : (n : ℕ) (p : ℕ → Bool) → T (below n p) → (x : ℕ) → x < n → T (p x)
-passes zero p t x h = absurd (not-suc-le-zero h)
-passes (suc n) p t x h =
-    ⊎-elim (λ e. subst (λ (k : ℕ). T (p k)) (sym e) (and-left (p n) (below n p) t))
-    (λ l. passes n p (and-right (p n) (below n p) t) x l)
-    (eq-or-lt-of-le (le-of-suc-le-suc h))
+use Rattle.rules.specs.Sound.{_implies_}
+use Rattle.rules.proofs.Choice.{implied, below, passes}
 
 -- A flag as a byte.
 pub byte-number : (b : Bool) → boolByte b ≡ number b
@@ -76,7 +57,7 @@ bit-3-test x = eqb (bitAnd x 0xF7) (x - number (bit x 3) * 8)
 
 pub mask-bit-3 : (x : ℕ) → x < 256 → bitAnd x 0xF7 ≡ x - number (bit x 3) * 8
 unfolding bit-3-test
-mask-bit-3 x h = eqb→eq _ _ (passes 256 bit-3-test tt x h)
+mask-bit-3 x h = eqb-true _ _ (passes 256 bit-3-test refl x h)
 
 abbrev bitsOf : Bool → ℕ → ℕ
 bitsOf srwd v = number (srwd && bit v 7) * 128 + v / 4 % 4 * 4
@@ -89,37 +70,34 @@ mask false = 0x0C
 stored-test : Bool → ℕ → Bool
 stored-test srwd x = eqb (bitAnd x (mask srwd)) (bitsOf srwd x)
 
-stored-all : (srwd : Bool) → T (below 256 (stored-test srwd))
+stored-all : (srwd : Bool) → below 256 (stored-test srwd) ≡ true
 unfolding stored-test
-stored-all true = tt
-stored-all false = tt
+stored-all true = refl
+stored-all false = refl
 
 pub stored-bits : (row : Row) {srwd : Bool} (x : ℕ) → row .srwd ≡ srwd → x < 256 → bitAnd x (mask srwd) ≡ storable row x
 unfolding stored-test
-stored-bits row {srwd} x e h = rw e (eqb→eq _ _ (passes 256 (stored-test srwd) (stored-all srwd) x h))
+stored-bits row {srwd} x e h = rw e (eqb-true _ _ (passes 256 (stored-test srwd) (stored-all srwd) x h))
 
 -- The status byte, over all bytes, both kinds of device and both flags.
 status-test : Bool → Bool → Bool → ℕ → Bool
-status-test srwd wel busy x = not (eqb (bitsOf srwd x) x) || eqb (bitOr (bitOr x (boolByte wel * 2 % 256)) (boolByte busy)) (x + number wel * 2 + number busy)
+status-test srwd wel busy x = eqb (bitsOf srwd x) x implies eqb (bitOr (bitOr x (boolByte wel * 2 % 256)) (boolByte busy)) (x + number wel * 2 + number busy)
 
-status-all : (srwd wel busy : Bool) → T (below 256 (status-test srwd wel busy))
+status-all : (srwd wel busy : Bool) → below 256 (status-test srwd wel busy) ≡ true
 unfolding status-test
-status-all true true true = tt
-status-all true true false = tt
-status-all true false true = tt
-status-all true false false = tt
-status-all false true true = tt
-status-all false true false = tt
-status-all false false true = tt
-status-all false false false = tt
-
-or-else : (a b : Bool) → a ≡ true → T (not a || b) → T b
-or-else true b e t = t
-or-else false b e t = absurd (subst (λ (x : Bool). T (not x)) e tt)
+status-all true true true = refl
+status-all true true false = refl
+status-all true false true = refl
+status-all true false false = refl
+status-all false true true = refl
+status-all false true false = refl
+status-all false false true = refl
+status-all false false false = refl
 
 pub or-status : (row : Row) (x : ℕ) (wel busy : Bool) → x < 256 → storable row x ≡ x → bitOr (bitOr x (boolByte wel * 2 % 256)) (boolByte busy) ≡ x + number wel * 2 + number busy
 unfolding status-test
-or-status row x wel busy h e = eqb→eq _ _ (or-else _ _ (eq-eqb _ _ e) (passes 256 (status-test (row .srwd) wel busy) (status-all (row .srwd) wel busy) x h))
+or-status row x wel busy h e =
+    eqb-true _ _ (implied _ _ (passes 256 (status-test (row .srwd) wel busy) (status-all (row .srwd) wel busy) x h) (eq-eqb _ _ e))
 
 pub roll-eq : (row : Row) (a : ℕ) {p q : ℕ} → p ≡ a % row .page → q ≡ (p + 1) % row .page → a - p + q ≡ rolled row a
 unfolding rolled

@@ -1,8 +1,11 @@
--- Laws on choices by a test, on tests joined by "and", "or" and "not", on lists of tests, and on a bit as a number.
-use Prim.Native.Nat.{_≤_}
-use mathlib.Core.Path.{_≡_, refl, sym, _∙_}
+-- Laws on choices by a test, on tests joined by "and", "or" and "not", on lists of tests and tests of all small numbers, and on a bit
+-- as a number.
+use Prim.Native.Nat.{ℕ, zero, suc, _≤_, _<_}
+use mathlib.Core.Path.{_≡_, refl, sym, ap, _∙_}
 use mathlib.Core.Bool.{Bool, true, false, _&&_, _||_, true≢false}
 use mathlib.Core.List.{List, [], _∷_}
+use mathlib.Core.Logic.{⊎-elim}
+use native.Mathlib.Nat.{eq-or-lt-of-le, le-of-suc-le-suc, not-suc-le-zero}
 use native.Mathlib.Omega.{arith}
 use lib.Dec.{eqb}
 use Rattle.rules.specs.World.{if_then_else_, number}
@@ -76,9 +79,8 @@ or-elim true b f g e = f refl
 or-elim false b f g e = g e
 
 -- What holds by one of two holds by one of two weaker ones.
-pub or-map : (a b c : Bool) → (b ≡ true → c ≡ true) → (a || b) ≡ true → (a || c) ≡ true
-or-map true b c f e = refl
-or-map false b c f e = f e
+pub or-both : (a b c d : Bool) → (a ≡ true → c ≡ true) → (b ≡ true → d ≡ true) → (a || b) ≡ true → (c || d) ≡ true
+or-both a b c d f g = or-elim a b (λ e. or-left c d (f e)) (λ e. or-right c d (g e))
 
 -- What an implication that holds says under its premise.
 pub implied : (a b : Bool) → (a implies b) ≡ true → a ≡ true → b ≡ true
@@ -97,6 +99,17 @@ each (b ∷ bs) e = (and-left b (all bs) e, each bs (and-right b (all bs) e))
 pub all-of : (bs : List Bool) → Hold bs → all bs ≡ true
 all-of [] e = refl
 all-of (b ∷ bs) e = and-both b (all bs) (e .0) (all-of bs (e .1))
+
+-- A test of every number below n, which computation decides, and what it says of each.
+abbrev pub below : ℕ → (ℕ → Bool) → Bool
+below zero test = true
+below (suc n) test = test n && below n test
+
+pub passes : (n : ℕ) (test : ℕ → Bool) → below n test ≡ true → (x : ℕ) → x < n → test x ≡ true
+passes zero test e x h = absurd (not-suc-le-zero h)
+passes (suc n) test e x h =
+    ⊎-elim (λ same. ap test same ∙ and-left (test n) (below n test) e) (λ less. passes n test (and-right (test n) (below n test) e) x less)
+    (eq-or-lt-of-le (le-of-suc-le-suc h))
 
 -- A bit as a number: 0 or 1, and the bit again.
 pub number-small : (b : Bool) → number b ≤ 1

@@ -16,6 +16,7 @@ pub mod Lookalike
 pub mod Pieces
 pub mod Preserved
 pub mod Program
+pub mod Protection
 pub mod Received
 pub mod Recorded
 pub mod Runs

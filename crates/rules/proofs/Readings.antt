@@ -161,6 +161,10 @@ write-with-all-protected : Seen spec.write-with-all-protected
 unfolding opened
 write-with-all-protected = refl
 
+rolled-to-the-first-protected : Seen spec.rolled-to-the-first-protected
+unfolding opened
+rolled-to-the-first-protected = refl
+
 wrid-with-all-protected : Seen spec.wrid-with-all-protected
 unfolding opened
 wrid-with-all-protected = refl
@@ -194,5 +198,5 @@ readings =
     and wren-of-two-bytes and wrdi-exactly and status-of-the-m95040 and status-of-the-m95m01 and status-of-the-m95m02
     and upper-quarter-of-the-m95m01 and upper-quarter-of-the-m95m02 and identification-of-the-m95m01 and identification-of-the-m95m02
     and protect-low-and-wren and protect-low-and-wrsr and protect-low-and-write and unknown-code and address-above-the-array and rdid-past-the-page and wrid-rolls
-    and wrid-when-locked and write-with-all-protected and wrid-with-all-protected and lid-with-all-protected and marks-cleared-by-write
+    and wrid-when-locked and write-with-all-protected and rolled-to-the-first-protected and wrid-with-all-protected and lid-with-all-protected and marks-cleared-by-write
     and marks-cleared-by-82h and latch-without-wel and lid-byte-not-latched and none

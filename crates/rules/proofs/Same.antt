@@ -18,7 +18,7 @@ use Rattle.rules.specs.Cycle.{written, waitedState, waited}
 use Rattle.rules.specs.Event.{pinsAfter, selected, deselected, decodes, answer, refusal, react, settled, step, next}
 use Rattle.rules.specs.Sound.{Lent}
 use Rattle.rules.specs.Selections.{contents, visible}
-use Rattle.rules.proofs.Choice.{if-elim, if-both, clash, and-left, and-right, and-both, or-left, or-right, or-first, or-map}
+use Rattle.rules.proofs.Choice.{if-elim, if-both, clash, and-left, and-right, and-both, or-left, or-right, or-first, or-both}
 use Rattle.rules.proofs.Widths.{page-positive}
 use Rattle.rules.proofs.Latch.{Agree, written-agree, cleared-agree, cleared-length, marked-agree}
 use Rattle.rules.proofs.Received.{lock-form, marked-long}
@@ -84,7 +84,7 @@ module _ {row : Row} (v : Widths row) (w : World) (long : length (w .latch) ≡ 
       rw e
       (λ u.
       let before : uses s ≡ true =
-      or-map (holdsLatch (s .cycle .kind)) _ (commandUses (s .command))
+      or-both (holdsLatch (s .cycle .kind)) _ (holdsLatch (s .cycle .kind)) (commandUses (s .command)) (λ e. e)
       (if-elim (λ (j : Instruction). (latches j && here) ≡ true → commandUses (s .command) ≡ true) (isLast row s && lockBit row (longer row a b))
       (λ _ t. and-both (latches i) here (lock-form i .1 (and-left locks here t)) (and-right locks here t))
       (λ _ t. t))

@@ -10,16 +10,33 @@ use lib.Dec.{eqb, leb, ltb}
 use lib.ListN.{length, getD}
 use borrow.Author.Tests.{eqb-true, leb-true, ltb-true}
 use Rattle.rules.specs.World.{if_then_else_, Row}
-use Rattle.rules.specs.Device.{Widths, hasIdentification, hasA8, code, table, m95040, rowOf}
+use Rattle.rules.specs.Device.{Widths, hasIdentification, hasA8, entries, firstProtected, code, table, m95040, rowOf}
 use Rattle.rules.specs.Instruction.{longer}
 use Rattle.rules.specs.Receive.{rolled}
 use Rattle.rules.specs.Sound.{_implies_, all}
 use Rattle.rules.proofs.Choice.{and-left, and-right, implied, each}
 
+-- What a test finds of everything in a list, it finds of what is read from it; so a row more in the table asks for nothing here.
+pub read-test : {A : Type 0} (test : A → Bool) (xs : List A) → all (map test xs) ≡ true → (i : ℕ) (other : A) → test other ≡ true → test (getD xs i other) ≡ true
+read-test test [] e i other h = h
+read-test test (x ∷ xs) e zero other h = and-left (test x) (all (map test xs)) e
+read-test test (x ∷ xs) e (suc i) other h = read-test test xs (and-right (test x) (all (map test xs)) e) i other h
+
+-- So with the sheet's entries and the one under a setting.
+entry-read : (row : Row) (test : ℕ → Bool) → all (map test (entries row)) ≡ true → (bp : ℕ) → test (firstProtected row bp) ≡ true
+entry-read row test e bp = read-test test (entries row) e bp (row .sheet .bp11) (each (map test (entries row)) e .1 .1 .1 .0)
+
 -- How often a number can be halved: the exponent of a power of two, here at most 24.
 abbrev halvings : ℕ → ℕ → ℕ
 halvings zero n = 0
 halvings (suc most) n = if ltb 1 n then suc (halvings most (n / 2)) else 0
+
+-- An address no further than the cells' end, and a page's start.
+abbrev isInside : Row → ℕ → Bool
+isInside row a = leb a (row .cells)
+
+abbrev isPage : Row → ℕ → Bool
+isPage row a = eqb (a % row .page) 0
 
 -- The test of a row, a line for each fact of `Widths`.
 abbrev tests : Row → List Bool
@@ -28,13 +45,15 @@ tests row =
     let pageBits = halvings 24 (row .page) in
     eqb (row .cells) (2 ^ cellBits)
     ∷ eqb (row .page) (2 ^ pageBits)
-    ∷ leb (pageBits + 2) cellBits
+    ∷ ltb pageBits cellBits
     ∷ leb cellBits 24
     ∷ leb (row .cells) 16_777_216
     ∷ leb 4 (row .page)
     ∷ leb (row .page) 256
     ∷ (hasIdentification row implies eqb (row .identification) (row .page))
     ∷ leb (length (code row)) (row .identification)
+    ∷ all (map (isInside row) (entries row))
+    ∷ all (map (isPage row) (entries row))
     ∷ leb 1 (row .width)
     ∷ leb (row .width) 3
     ∷ leb (row .cells) (256 ^ row .width * (if hasA8 row then 2 else 1))
@@ -52,19 +71,22 @@ widths row e =
     let h = each (tests row) e in
     let bounds = h .1 .1 .1 .1 in
     let page = bounds .1 .1 .1 in
-    let address = page .1 .1 in
+    let sheet = page .1 .1 in
+    let address = sheet .1 .1 in
     record {
       cellBits = halvings 24 (row .cells);
       pageBits = halvings 24 (row .page);
       cells = eqb-true _ _ (h .0);
       page = eqb-true _ _ (h .1 .0);
-      quarters = leb-true _ _ (h .1 .1 .0);
+      smaller = ltb-true _ _ (h .1 .1 .0);
       narrow = leb-true _ _ (h .1 .1 .1 .0);
       cellsMost = leb-true _ _ (bounds .0);
       pageLeast = leb-true _ _ (bounds .1 .0);
       pageMost = leb-true _ _ (bounds .1 .1 .0);
       whole = λ has. eqb-true _ _ (implied (hasIdentification row) (eqb (row .identification) (row .page)) (page .0) has);
       codeFits = leb-true _ _ (page .1 .0);
+      beginsInside = λ bp. leb-true _ _ (entry-read row (isInside row) (sheet .0) bp);
+      beginsPage = λ bp. eqb-true _ _ (entry-read row (isPage row) (sheet .1 .0) bp);
       oneByte = leb-true _ _ (address .0);
       threeBytes = leb-true _ _ (address .1 .0);
       reach = leb-true _ _ (address .1 .1 .0);
@@ -72,15 +94,9 @@ widths row e =
       soon = ltb-true _ _ (address .1 .1 .1 .1 .0);
     }
 
--- What a test finds of every row of a list, it finds of the row that is read from it; so one more in the table asks for nothing here.
-read-row : (test : Row → Bool) (rows : List Row) → all (map test rows) ≡ true → (i : ℕ) (other : Row) → test other ≡ true → test (getD rows i other) ≡ true
-read-row test [] e i other h = h
-read-row test (row ∷ rows) e zero other h = and-left (test row) (all (map test rows)) e
-read-row test (row ∷ rows) e (suc i) other h = read-row test rows (and-right (test row) (all (map test rows)) e) i other h
-
 pub of-device : (n : ℕ) → Widths (rowOf n)
 unfolding isWide
-of-device n = widths (rowOf n) (read-row isWide table refl (n - 1) m95040 refl)
+of-device n = widths (rowOf n) (read-test isWide table refl (n - 1) m95040 refl)
 
 -- A row that was looked up.
 pub row-widths : (device : ℕ) (row : Row) → row ≡ rowOf device → Widths row
@@ -91,7 +107,7 @@ module _ {row : Row} (v : Widths row) where
   page-positive = omega (arith, v .pageLeast)
 
   pub page-below : row .page < row .cells
-  page-below = rw (v .page, v .cells) (pow-lt (omega (arith, v .quarters)))
+  page-below = rw (v .page, v .cells) (pow-lt (omega (arith, v .smaller)))
 
   -- The identification page is a page, or none.
   pub identification-short : row .identification ≤ row .page
@@ -104,7 +120,7 @@ module _ {row : Row} (v : Widths row) where
   -- The cells are whole pages.
   pages : row .cells ≡ 2 ^ (v .cellBits - v .pageBits) * row .page
   pages =
-      let e : v .cellBits ≡ v .cellBits - v .pageBits + v .pageBits = omega (arith, v .quarters) in
+      let e : v .cellBits ≡ v .cellBits - v .pageBits + v .pageBits = omega (arith, v .smaller) in
       rw (v .cells, v .page, ← (pow-add 2 (v .cellBits - v .pageBits) (v .pageBits)), ← e)
 
   pub longer-inside : (a b : ℕ) → longer row a b < row .cells
@@ -139,4 +155,4 @@ pub room : (device : ℕ) {row : Row} → row ≡ rowOf device → (row .cells �
 unfolding hasRoom
 room device e =
     let v = of-device device in
-    rw e (leb-true (rowOf device .cells) 262_144 (read-row hasRoom table refl (device - 1) m95040 refl), v .pageMost, omega (arith, v .pageMost, identification-short v))
+    rw e (leb-true (rowOf device .cells) 262_144 (read-test hasRoom table refl (device - 1) m95040 refl), v .pageMost, omega (arith, v .pageMost, identification-short v))

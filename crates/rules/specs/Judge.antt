@@ -1,18 +1,18 @@
 -- 01, "Instructions", what the rise of S decides: whether a command has all that it asks for, and what then starts.
 use Rattle.rules.specs.World.{ℕ, _+_, _-_, _*_, _/_, _%_, Bool, not, _&&_, _||_, eqb, leb, ltb, if_then_else_, bit, number, Row, Kind, State, withStored}
-use Rattle.rules.specs.Device.{single}
+use Rattle.rules.specs.Device.{single, firstProtected}
 use Rattle.rules.specs.Instruction.{facts, changes}
 
 -- The status bits that a device has: 3 and 2, and 7 where there is SRWD. These of a data byte are stored.
 abbrev pub storable : Row → ℕ → ℕ
 storable row v = number (row .srwd && bit v 7) * 128 + v / 4 % 4 * 4
 
--- Protected: BP 01 the upper quarter, 10 the upper half, 11 all, 00 nothing.
+-- The setting of BP1 and BP0, and what it protects: all from the sheet's entry on.
 abbrev pub blocks : State → ℕ
 blocks s = s .registers .status / 4 % 4
 
 unfoldable pub isProtected : Row → ℕ → ℕ → Bool
-isProtected row bp a = eqb bp 1 && leb (row .cells / 4 * 3) a || eqb bp 2 && leb (row .cells / 2) a || eqb bp 3
+isProtected row bp a = leb (firstProtected row bp) a
 
 -- The identification page is shut if locked, or if BP is 11.
 abbrev pub isShut : State → Bool

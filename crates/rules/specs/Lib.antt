@@ -17,5 +17,6 @@ pub mod Smaller
 pub mod Selections
 pub mod Recorded
 pub mod Loaded
+pub mod Protection
 pub mod Refusals
 pub mod Unsound

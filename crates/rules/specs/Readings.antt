@@ -210,6 +210,14 @@ wrid-when-locked = (1, wren ∷ say (0x82 ∷ 0xFF ∷ 0x02 ∷ []) ∷ full ∷
 abbrev pub write-with-all-protected : Line
 write-with-all-protected = (1, wren ∷ say (0x01 ∷ 0x0C ∷ []) ∷ full ∷ wren ∷ say (0x02 ∷ 0x00 ∷ 0x66 ∷ []) ∷ status ∷ [], 0x0E ∷ [])
 
+-- A WRITE is judged where its data left off: after one byte 6Fh has gone round to 60h, the first protected cell under BP 01, and 5Fh to 50h.
+abbrev pub rolled-to-the-first-protected : Line
+rolled-to-the-first-protected = (
+  5,
+  wren ∷ say (0x01 ∷ 0x04 ∷ []) ∷ full ∷ wren ∷ say (0x02 ∷ 0x6F ∷ 0x77 ∷ []) ∷ status ∷ say (0x02 ∷ 0x5F ∷ 0x77 ∷ []) ∷ status ∷ [],
+  0x06 ∷ 0x07 ∷ [],
+)
+
 abbrev pub wrid-with-all-protected : Line
 wrid-with-all-protected = (1, wren ∷ say (0x01 ∷ 0x0C ∷ []) ∷ full ∷ wren ∷ say (0x82 ∷ 0x00 ∷ 0x66 ∷ []) ∷ full ∷ identity 0 ∷ status ∷ [], 0xFF ∷ 0x0E ∷ [])
 
@@ -247,5 +255,5 @@ readings =
     ∷ power-loses-a-command ∷ turned-away-to-the-end ∷ code-complete-after-the-cycle ∷ wrdi-in-a-cycle ∷ wren-of-two-bytes ∷ wrdi-exactly
     ∷ status-of-the-m95040 ∷ status-of-the-m95m01 ∷ status-of-the-m95m02 ∷ upper-quarter-of-the-m95m01 ∷ upper-quarter-of-the-m95m02
     ∷ identification-of-the-m95m01 ∷ identification-of-the-m95m02 ∷ protect-low-and-wren ∷ protect-low-and-wrsr ∷ protect-low-and-write
-    ∷ unknown-code ∷ address-above-the-array ∷ rdid-past-the-page ∷ wrid-rolls ∷ wrid-when-locked ∷ write-with-all-protected ∷ wrid-with-all-protected
-    ∷ lid-with-all-protected ∷ marks-cleared-by-write ∷ marks-cleared-by-82h ∷ latch-without-wel ∷ lid-byte-not-latched ∷ []
+    ∷ unknown-code ∷ address-above-the-array ∷ rdid-past-the-page ∷ wrid-rolls ∷ wrid-when-locked ∷ write-with-all-protected ∷ rolled-to-the-first-protected
+    ∷ wrid-with-all-protected ∷ lid-with-all-protected ∷ marks-cleared-by-write ∷ marks-cleared-by-82h ∷ latch-without-wel ∷ lid-byte-not-latched ∷ []

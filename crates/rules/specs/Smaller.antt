@@ -29,7 +29,8 @@ abbrev pub m95010-read-goes-on : Line
 m95010-read-goes-on = (5, wren ∷ say (0x02 ∷ 0x00 ∷ 0x77 ∷ []) ∷ full ∷ ask (0x03 ∷ 0x7F ∷ []) 2 ∷ [], 0xFF ∷ 0x77 ∷ [])
 
 abbrev pub m95020-read-goes-on : Line
-m95020-read-goes-on = (6, wren ∷ say (0x02 ∷ 0x00 ∷ 0x77 ∷ []) ∷ full ∷ ask (0x03 ∷ 0xFF ∷ []) 2 ∷ [], 0xFF ∷ 0x77 ∷ [])
+m95020-read-goes-on =
+    (6, wren ∷ say (0x02 ∷ 0x00 ∷ 0x77 ∷ []) ∷ full ∷ wren ∷ say (0x02 ∷ 0x7F ∷ 0x66 ∷ []) ∷ full ∷ ask (0x03 ∷ 0xFF ∷ []) 2 ∷ [], 0xFF ∷ 0x77 ∷ [])
 
 abbrev pub m95128-read-goes-on : Line
 m95128-read-goes-on = (7, wren ∷ say (0x02 ∷ 0x00 ∷ 0x00 ∷ 0x77 ∷ []) ∷ full ∷ ask (0x03 ∷ 0x3F ∷ 0xFF ∷ []) 2 ∷ [], 0xFF ∷ 0x77 ∷ [])

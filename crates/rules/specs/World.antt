@@ -5,6 +5,7 @@ pub use mathlib.Core.Bool.{Bool, true, false, not, _&&_, _||_}
 pub use mathlib.Core.List.{List, [], _∷_, _++_, map}
 pub use lib.ListN.{getD, set, take, drop, replicate, length}
 pub use lib.Dec.{eqb, leb, ltb}
+pub use Rattle.rules.specs.declared.Sheet.{Sheet}
 pub use Rattle.rules.specs.declared.Row.{Row}
 pub use Rattle.rules.specs.declared.Instruction.{Instruction}
 pub use Rattle.rules.specs.declared.Kind.{Kind}

@@ -1,6 +1,15 @@
 // The types of the bench: a device's row, its state in groups, instructions, cycles, output levels, events.
 // The rules of specs/ are functions on these, and the product's code runs on them.
 
+// A line of the service sheet (document 02, W-203): the first protected address under each setting of BP1 and BP0. Under 00, which
+// protects nothing, it is the cell count.
+pub struct Sheet {
+    pub bp00: usize,
+    pub bp01: usize,
+    pub bp10: usize,
+    pub bp11: usize,
+}
+
 // One row of the device table (document 01, "What the bench models"; document 02, W-202). The identification page has a length of its
 // own: a page, or 0 where the device has none.
 pub struct Row {
@@ -11,6 +20,7 @@ pub struct Row {
     pub time: usize,
     pub srwd: bool,
     pub coded: bool,
+    pub sheet: Sheet,
 }
 
 // The instructions of Table 6. Unknown stands for a code that is in no list, and for none received yet.

@@ -1,4 +1,4 @@
--- Looking a code up, in one step for each way through the code; and the arm that a value is taken by.
+-- Looking a code, a row or an entry of the sheet up, in one step for each way through the code; and the arm that a value is taken by.
 use Prim.Native.Nat.{ℕ, zero, suc, _-_, _*_, _≤_}
 use mathlib.Core.Path.{_≡_, refl, sym, ap, _∙_}
 use mathlib.Core.Bool.{Bool, true, false, not, _&&_}
@@ -11,7 +11,7 @@ use Rattle.rules.specs.declared.Facts.{Facts}
 use Rattle.rules.specs.declared.Instruction.{Instruction}
 use Rattle.rules.specs.declared.Instruction.the-variants.{Wren, Wrdi, Rdsr, Wrsr, Read, Write, Rdid, Wrid, Unknown}
 use Rattle.rules.specs.World.{if_then_else_, bit, number}
-use Rattle.rules.specs.Device.{table, m95040, rowOf, single, hasIdentification}
+use Rattle.rules.specs.Device.{table, m95040, rowOf, single, hasIdentification, firstProtected}
 use Rattle.rules.specs.Instruction.{facts, lookUp, codes, named, decode}
 
 -- What the arm of a value says holds of whatever is that value.
@@ -74,3 +74,11 @@ pub first-row : (n : ℕ) → (n ≡ 2 → ⊥) → (n ≡ 3 → ⊥) → (n ≡
 first-row zero a b c d e f = refl
 first-row (suc zero) a b c d e f = refl
 first-row (suc (suc m)) a b c d e f = behind m (omega arith)
+
+-- A setting that none of the first three entries is under has the last.
+pub last-entry : (row : Row) (bp : ℕ) → (bp ≡ 0 → ⊥) → (bp ≡ 1 → ⊥) → (bp ≡ 2 → ⊥) → row .sheet .bp11 ≡ firstProtected row bp
+last-entry row zero a b c = absurd (a refl)
+last-entry row (suc zero) a b c = absurd (b refl)
+last-entry row (suc (suc zero)) a b c = absurd (c refl)
+last-entry row (suc (suc (suc zero))) a b c = refl
+last-entry row (suc (suc (suc (suc n)))) a b c = refl

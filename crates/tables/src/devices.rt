@@ -1,8 +1,9 @@
 // The device table, a row for each device, and what a row says of its device.
 
 ghost use mathlib.Core.Path.{_≡_};
-ghost use Rattle.rules.specs.Device.{isDevice, rowOf, hasIdentification, hasA8};
+ghost use Rattle.rules.specs.Device.{isDevice, rowOf, hasIdentification, hasA8, firstProtected};
 use rules::Row;
+use rules::Sheet;
 
 // The device table: a row each, under the names that the rules have for them.
 const M95040: Row = Row {
@@ -13,6 +14,12 @@ const M95040: Row = Row {
     time: 5000,
     srwd: false,
     coded: false,
+    sheet: Sheet {
+        bp00: 0x200,
+        bp01: 0x180,
+        bp10: 0x100,
+        bp11: 0,
+    },
 };
 
 const M95128D: Row = Row {
@@ -23,6 +30,12 @@ const M95128D: Row = Row {
     time: 5000,
     srwd: true,
     coded: false,
+    sheet: Sheet {
+        bp00: 0x4000,
+        bp01: 0x3000,
+        bp10: 0x2000,
+        bp11: 0,
+    },
 };
 
 const M95M01: Row = Row {
@@ -33,6 +46,12 @@ const M95M01: Row = Row {
     time: 4000,
     srwd: true,
     coded: false,
+    sheet: Sheet {
+        bp00: 0x20000,
+        bp01: 0x18000,
+        bp10: 0x10000,
+        bp11: 0,
+    },
 };
 
 const M95M02: Row = Row {
@@ -43,6 +62,12 @@ const M95M02: Row = Row {
     time: 5000,
     srwd: true,
     coded: true,
+    sheet: Sheet {
+        bp00: 0x40000,
+        bp01: 0x30000,
+        bp10: 0x20000,
+        bp11: 0,
+    },
 };
 
 const M95010: Row = Row {
@@ -53,6 +78,12 @@ const M95010: Row = Row {
     time: 5000,
     srwd: false,
     coded: false,
+    sheet: Sheet {
+        bp00: 0x80,
+        bp01: 0x60,
+        bp10: 0x40,
+        bp11: 0,
+    },
 };
 
 const M95020: Row = Row {
@@ -63,6 +94,12 @@ const M95020: Row = Row {
     time: 5000,
     srwd: false,
     coded: false,
+    sheet: Sheet {
+        bp00: 0x100,
+        bp01: 0xC0,
+        bp10: 0x80,
+        bp11: 0,
+    },
 };
 
 const M95128: Row = Row {
@@ -73,6 +110,12 @@ const M95128: Row = Row {
     time: 5000,
     srwd: true,
     coded: false,
+    sheet: Sheet {
+        bp00: 0x4000,
+        bp01: 0x3000,
+        bp10: 0x2000,
+        bp11: 0,
+    },
 };
 
 // Whether there is a device of this number.
@@ -109,4 +152,16 @@ pub fn has_a8(row: Row) -> bool
     ensures { λ r. ⌜ r ≡ hasA8 row ⌝ }
 {
     (row.width == 1) & (256 < row.cells)
+}
+
+// The service sheet's entry under a setting of BP1 and BP0: the first protected address.
+pub fn first_protected(row: Row, bp: u8) -> usize
+    ensures { λ r. ⌜ r ≡ firstProtected row bp ⌝ }
+{
+    match bp {
+        0 => row.sheet.bp00,
+        1 => row.sheet.bp01,
+        2 => row.sheet.bp10,
+        _ => row.sheet.bp11,
+    }
 }

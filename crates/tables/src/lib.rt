@@ -5,6 +5,7 @@ mod devices;
 mod instructions;
 
 pub use cycles::changes;
+pub use devices::first_protected;
 pub use devices::has_a8;
 pub use devices::has_identification;
 pub use devices::is_device;

@@ -17,14 +17,11 @@ pub fn blocks(s: State) -> u8
     bits::blocks(s.registers.status)
 }
 
-// Whether an address lies in the part that the bits protect: the upper quarter, the upper half, or all.
+// Whether a setting of the bits protects an address: one look-up in the service sheet, one comparison.
 pub fn is_protected(row: Row, bp: u8, address: usize) -> bool
-    requires { ⌜ Widths row ⌝ }
     ensures { λ r. ⌜ r ≡ isProtected row bp address ⌝ }
 {
-    let quarter = row.cells / 4 * 3;
-    let half = row.cells / 2;
-    (bp == 1) & (quarter <= address) | (bp == 2) & (half <= address) | (bp == 3)
+    tables::first_protected(row, bp) <= address
 }
 
 // The identification page is shut if locked, or if all blocks are protected.
