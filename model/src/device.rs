@@ -1,5 +1,5 @@
-//! The one table of devices (document 01, "What the bench models"; document 02, W-202). Every rule that differs between
-//! devices reads a column of it; none asks which device it is.
+//! The one table of devices (document 01, "What the bench models"; document 02, W-202 and W-203). Every rule that
+//! differs between devices reads a column of it; none asks which device it is.
 
 /// The block protection bits BP1 and BP0 of the status register.
 pub const BP: u8 = 0b0000_1100;
@@ -26,6 +26,9 @@ pub struct Device {
     pub identification: usize,
     /// What the identification page starts with when prepared; FFh follows.
     pub identification_code: &'static [u8],
+    /// The row of the service sheet: the first protected address for the block settings 00, 01, 10 and 11, each a
+    /// multiple of the page. Where the sheet says "none" it is the number of cells, which no address reaches.
+    pub first_protected: [usize; 4],
 }
 
 /// The table itself, in the order of the device numbers.
@@ -40,6 +43,7 @@ pub const DEVICES: [Device; 7] = [
         has_srwd: false,
         identification: 16,
         identification_code: &[],
+        first_protected: [0x200, 0x180, 0x100, 0],
     },
     Device {
         number: 2,
@@ -51,6 +55,7 @@ pub const DEVICES: [Device; 7] = [
         has_srwd: true,
         identification: 64,
         identification_code: &[],
+        first_protected: [0x4000, 0x3000, 0x2000, 0],
     },
     Device {
         number: 3,
@@ -62,6 +67,7 @@ pub const DEVICES: [Device; 7] = [
         has_srwd: true,
         identification: 256,
         identification_code: &[],
+        first_protected: [0x20000, 0x18000, 0x10000, 0],
     },
     Device {
         number: 4,
@@ -73,6 +79,7 @@ pub const DEVICES: [Device; 7] = [
         has_srwd: true,
         identification: 256,
         identification_code: &IDENTIFICATION_CODE,
+        first_protected: [0x40000, 0x30000, 0x20000, 0],
     },
     Device {
         number: 5,
@@ -84,6 +91,7 @@ pub const DEVICES: [Device; 7] = [
         has_srwd: false,
         identification: 0,
         identification_code: &[],
+        first_protected: [0x80, 0x60, 0x40, 0],
     },
     Device {
         number: 6,
@@ -95,6 +103,7 @@ pub const DEVICES: [Device; 7] = [
         has_srwd: false,
         identification: 0,
         identification_code: &[],
+        first_protected: [0x100, 0xC0, 0x80, 0],
     },
     Device {
         number: 7,
@@ -106,6 +115,7 @@ pub const DEVICES: [Device; 7] = [
         has_srwd: true,
         identification: 0,
         identification_code: &[],
+        first_protected: [0x4000, 0x3000, 0x2000, 0],
     },
 ];
 
@@ -160,18 +170,14 @@ impl Device {
         1 + self.address_bytes
     }
 
-    /// Whether the page that holds `address` is protected by the block protection bits of `status`.
+    /// Whether the page that holds `address` is protected by the block protection bits of `status`; any cell of the
+    /// page gives its answer.
     pub fn is_protected(&self, status: u8, address: usize) -> bool {
         address >= self.first_protected(status)
     }
 
-    /// The first protected cell; the number of cells where nothing is protected.
+    /// The entry of the sheet for the block setting that `status` holds.
     pub fn first_protected(&self, status: u8) -> usize {
-        match (status & BP) >> 2 {
-            0b00 => self.cells,
-            0b01 => self.cells - self.cells / 4,
-            0b10 => self.cells / 2,
-            _ => 0,
-        }
+        self.first_protected[usize::from((status & BP) >> 2)]
     }
 }

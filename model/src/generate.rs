@@ -21,7 +21,7 @@ use crate::device::Device;
 use crate::trace::{append_record, Event};
 use commands::Maker;
 pub use inputs::{bench_input, odd_bench_input, ODD_BENCH_INPUTS};
-pub use made::made_events;
+pub use made::{made_events, sheet_events};
 pub use malformed::{tail, TAILS};
 pub use random::Random;
 pub use states::{loads, states, INSTRUCTIONS};

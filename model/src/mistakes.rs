@@ -1,7 +1,8 @@
 //! The model made wrong in one named way.
 //!
 //! The rules know nothing of this. A mistaken device is the right one, with the state changed before an event so that
-//! the right rules do the wrong thing, or changed after it. `Fault::None` runs the right model itself.
+//! the right rules do the wrong thing, or changed after it; or its row of the table is wrong. `Fault::None` runs the
+//! right model itself.
 
 mod bench;
 mod codes;
@@ -9,6 +10,7 @@ mod edges;
 mod judging;
 mod records;
 mod sending;
+mod sheet;
 mod smaller;
 mod state;
 mod view;
@@ -57,6 +59,13 @@ pub(crate) fn run_wrongly(
     if fault == Fault::None {
         return run_records(&mut chip, trace, answers, limit);
     }
+    if let Some(row) = sheet::wrong_row(fault, chip.device) {
+        let mut chip = Chip {
+            device: &row,
+            ..chip
+        };
+        return run_records(&mut chip, trace, answers, limit);
+    }
     let Some(believed) = Believed::of(fault) else {
         return Mistaken::new(fault, chip).run(trace, answers, limit);
     };
@@ -86,6 +95,8 @@ struct Mistaken<'a> {
     believed: Option<Believed>,
     /// Whether a cycle ran when a mistaken reading judged the code, before the code was there.
     cycle_before_code: bool,
+    /// The address as its bytes gave it; data bytes move on the one in the state.
+    address_sent: usize,
     /// The latch before the event, where a mistake puts it back.
     data_before: Vec<u8>,
     marks_before: Vec<u8>,
@@ -121,6 +132,7 @@ impl<'a> Mistaken<'a> {
             chip,
             believed: None,
             cycle_before_code: false,
+            address_sent: 0,
             data_before: Vec::new(),
             marks_before: Vec::new(),
         }

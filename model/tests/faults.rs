@@ -4,8 +4,9 @@ use std::process::Command;
 
 use m95_model::generate::{loads, states, trace, view_bytes, views, Profile, View};
 use m95_model::{
-    is_sound, is_sound_wrongly, load, load_wrongly, play, play_wrongly, view, view_wrongly,
-    Contents, Cycle, Device, Fault, Instruction, Number, Region, DEVICES,
+    append_record, is_sound, is_sound_wrongly, load, load_wrongly, play, play_wrongly, view,
+    view_wrongly, Contents, Cycle, Device, Event, Fault, Instruction, Number, Region, Vector,
+    DEVICES,
 };
 
 /// A fault whose place the trace never reaches must change nothing: the mistakes stand around the right model.
@@ -49,14 +50,17 @@ fn names_and_meanings_are_all_different() {
 /// The devices that the name of a fault says it is about, or none where it names no device.
 fn devices_named(fault: Fault) -> Option<&'static [u8]> {
     let name = format!("{fault:?}");
-    let starts: [(&str, &[u8]); 7] = [
+    let starts: [(&str, &[u8]); 10] = [
         ("Smaller", &[5, 6, 7]),
         ("Device5And6", &[5, 6]),
+        ("Device3And4", &[3, 4]),
+        ("Device1", &[1]),
+        ("Device2", &[2]),
+        ("Device3", &[3]),
+        ("Device4", &[4]),
         ("Device5", &[5]),
         ("Device6", &[6]),
         ("Device7", &[7]),
-        ("Device3", &[3]),
-        ("Device1", &[1]),
     ];
     let ends: [(&str, &[u8]); 2] = [("OnDevice1", &[1]), ("OnDevice3", &[3])];
     let started = starts.iter().find(|(start, _)| name.starts_with(start));
@@ -79,6 +83,74 @@ fn a_fault_of_some_devices_changes_nothing_on_the_others() {
             let wrong = play_wrongly(fault, device, &mut second, &trace, all, all);
             assert_eq!(right, wrong, "{fault:?} {}", device.name);
             assert_eq!(first, second, "{fault:?} {}", device.name);
+        }
+    }
+}
+
+/// `bytes` in one selection.
+fn send(trace: &mut Vec<u8>, bytes: &[u8]) {
+    append_record(trace, Event::Select(false));
+    for place in 0..8 * bytes.len() {
+        let level = bytes[place / 8] << (place % 8) & 0x80 != 0;
+        append_record(trace, Event::Data(level));
+        append_record(trace, Event::Clock(true));
+        append_record(trace, Event::Clock(false));
+    }
+    append_record(trace, Event::Select(true));
+}
+
+/// A WRITE of one byte with this block setting.
+fn write_with(row: &Device, setting: usize, address: usize) -> Vec<u8> {
+    let a8 = if row.code_brings_a8() {
+        address >> 8
+    } else {
+        0
+    };
+    let mut command = vec![0x02 | (a8 as u8) << 3];
+    let bytes = (address as u32).to_be_bytes();
+    command.extend(&bytes[4 - usize::from(row.address_bytes)..]);
+    command.push(0x5A);
+    let mut trace = Vec::new();
+    send(&mut trace, &[0x06]);
+    send(&mut trace, &[0x01, (setting << 2) as u8]);
+    append_record(&mut trace, Event::Wait(row.write_time));
+    send(&mut trace, &[0x06]);
+    send(&mut trace, &command);
+    trace
+}
+
+/// The device and the setting of a fault in which one entry of the sheet is wrong.
+fn entry_named(fault: Fault) -> Option<(u8, usize)> {
+    let name = format!("{fault:?}");
+    let (number, setting) = name.strip_prefix("Device")?.split_once("Entry")?;
+    let setting = usize::from_str_radix(&setting[..2], 2).ok()?;
+    Some((number.parse().ok()?, setting))
+}
+
+/// The pages on both sides of each entry of a row.
+fn pages_at_entries(row: &Device) -> Vec<usize> {
+    let entries = row.first_protected.into_iter();
+    let pages = entries.flat_map(|entry| [entry.checked_sub(row.page), Some(entry)]);
+    pages.flatten().filter(|page| *page < row.cells).collect()
+}
+
+#[test]
+fn an_entry_is_wrong_on_its_device_with_its_setting_and_nowhere_else() {
+    let named = |&fault: &Fault| Some((fault, entry_named(fault)?));
+    let faults: Vec<_> = Fault::ALL.iter().filter_map(named).collect();
+    assert_eq!(faults.len(), 4 * DEVICES.len());
+    for row in &DEVICES {
+        for (setting, entry) in row.first_protected.into_iter().enumerate() {
+            // A page too high opens the page above, and for 00 a page too low closes the one below.
+            let below = if setting == 0 { row.page } else { 0 };
+            for page in pages_at_entries(row) {
+                let right = Vector::of(Fault::None, row, &write_with(row, setting, page));
+                for &(fault, named) in &faults {
+                    let place = named == (row.number, setting) && page == entry - below;
+                    let asked = format!("{fault:?} {} BP {setting:02b} {page:X}h", row.name);
+                    assert_eq!(right.notices(fault), place, "{asked}");
+                }
+            }
         }
     }
 }

@@ -553,45 +553,6 @@ fn wrsr_asks_for_exactly_sixteen_rises() {
 }
 
 #[test]
-fn protection_limits_on_every_device() {
-    for (number, cells, page) in [
-        (1, 512, 16),
-        (2, 16_384, 64),
-        (3, 131_072, 256),
-        (4, 262_144, 256),
-        (5, 128, 16),
-        (6, 256, 16),
-        (7, 16_384, 64),
-    ] {
-        for (bits, first) in [(0x04, cells / 4 * 3), (0x08, cells / 2), (0x0C, 0)] {
-            let mut board = Board::new(number);
-            board.write(&[0x01, bits]);
-            board.write(&write_at(number, first, 0x5A));
-            assert_eq!(board.cells[first], 0xFF);
-            assert_eq!(board.status(), bits | 0x02);
-            board.command(&[0x04]);
-            if first > 0 {
-                board.write(&write_at(number, first - page, 0x5A));
-                assert_eq!(board.cells[first - page], 0x5A);
-            }
-        }
-        let mut board = Board::new(number);
-        board.write(&write_at(number, cells - 1, 0x5A));
-        assert_eq!(board.cells[cells - 1], 0x5A);
-    }
-}
-
-fn write_at(number: u8, address: usize, data: u8) -> Vec<u8> {
-    let byte = |shift: usize| (address >> shift & 0xFF) as u8;
-    match number {
-        1 => vec![0x02 | byte(8) << 3, byte(0), data],
-        5 | 6 => vec![0x02, byte(0), data],
-        2 | 7 => vec![0x02, byte(8), byte(0), data],
-        _ => vec![0x02, byte(16), byte(8), byte(0), data],
-    }
-}
-
-#[test]
 fn an_unknown_code_is_ignored_until_s_rises() {
     let mut board = Board::new(2);
     board.command(&[0x00, 0x06]);

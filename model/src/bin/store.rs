@@ -1,12 +1,14 @@
 //! `store DIR` writes vectors to DIR, one file for each profile, named as the profile; `Vector` says how a file is
-//! laid out. The same files come out each time, and devices that join the table only append to them.
+//! laid out. The same files come out each time, and what a request brings is only appended to them.
 
 use std::fs;
 use std::path::Path;
 use std::process::ExitCode;
 
-use m95_model::generate::{made_events, records_of, short_events, tail, Profile, TAILS};
-use m95_model::{Device, Fault, Vector, DEVICES};
+use m95_model::generate::{
+    made_events, records_of, sheet_events, short_events, tail, Profile, TAILS,
+};
+use m95_model::{Device, Event, Fault, Vector, DEVICES};
 
 /// Records of a trace, at most.
 const RECORDS: usize = 400;
@@ -61,8 +63,9 @@ fn main() -> ExitCode {
     };
     for profile in Profile::ALL {
         let mut file = Vec::new();
-        let vectors = JOINED.iter().flat_map(|joined| joined.vectors(profile));
-        let vectors: Vec<Vector> = vectors.collect();
+        let joined = JOINED.iter().flat_map(|joined| joined.vectors(profile));
+        // Those about the service sheet came last.
+        let vectors: Vec<Vector> = joined.chain(made_by_hand(sheet_events(profile))).collect();
         for vector in &vectors {
             vector.append_to(&mut file);
         }
@@ -98,10 +101,7 @@ impl Joined {
             let seeds = seeds[usize::from(device.number) - 1].iter();
             seeds.map(move |&seed| generated(profile, device, seed))
         });
-        let made = made_events(profile, devices);
-        let made = made
-            .iter()
-            .map(|(device, events)| Vector::of(Fault::None, device, &records_of(events)));
+        let made = made_by_hand(made_events(profile, devices));
         usual.chain(sharp).chain(made).collect()
     }
 
@@ -162,6 +162,12 @@ fn sharp_seeds(profile: Profile) -> [&'static [u64]; DEVICES.len()] {
         ],
         Profile::Malformed => [&[]; DEVICES.len()],
     }
+}
+
+fn made_by_hand(traces: Vec<(&'static Device, Vec<Event>)>) -> impl Iterator<Item = Vector> {
+    traces
+        .into_iter()
+        .map(|(device, events)| Vector::of(Fault::None, device, &records_of(&events)))
 }
 
 fn generated(profile: Profile, device: &'static Device, seed: u64) -> Vector {

@@ -1,13 +1,17 @@
 //! Short traces made by hand, for what a few hundred random records seldom reach: a second write after a first, a
-//! chip that is locked already, each code in a cycle, hold at each bit that is sent, and an end within a cycle.
+//! chip that is locked already, each code in a cycle, hold at each bit that is sent, an end within a cycle, and a write
+//! next to an entry of the service sheet.
 
 use super::commands::{Maker, BIT_3, RDID, RDSR, READ, WRDI, WREN, WRID, WRITE, WRSR};
 use super::Profile;
-use crate::device::Device;
+use crate::device::{Device, DEVICES};
 use crate::trace::Event;
 
 /// A trace made by hand: the profile it belongs to, and its steps.
-type Made = (Profile, fn(&mut Maker));
+type Made = (Profile, Steps);
+type Steps = fn(&mut Maker);
+/// Which devices get a trace.
+type Devices = fn(&Device) -> bool;
 
 const MADE: [Made; 18] = [
     (Profile::Commands, locks_twice),
@@ -46,6 +50,21 @@ const MADE_WITHOUT_PAGE: [Made; 11] = [
     (Profile::Hold, deselects_in_hold),
 ];
 
+/// Those about the service sheet (document 02, W-203), with the devices that get them. The first shows the same on all
+/// devices, so those with the shortest commands are enough; without an identification page there is
+/// `protects_a_quarter` in place of the second.
+const MADE_FOR_SHEET: [(Devices, Made); 3] = [
+    (
+        Device::has_one_address_byte,
+        (Profile::Protect, protects_nothing),
+    ),
+    (
+        Device::has_identification,
+        (Profile::Protect, protects_a_quarter_with_srwd),
+    ),
+    (|_| true, (Profile::Protect, protects_half_and_all)),
+];
+
 /// Data bytes that differ from each other, from FFh and from 00h.
 const FIRST: u8 = 0xA5;
 const SECOND: u8 = 0x3C;
@@ -68,12 +87,29 @@ pub fn made_events(
         let for_all = place < MADE.len();
         let is_for = |device: &&Device| for_all || !device.has_identification();
         for device in devices.iter().filter(is_for).filter(|_| *of == profile) {
-            let mut maker = Maker::new(device, place as u64, 0);
-            steps(&mut maker);
-            traces.push((device, maker.events));
+            traces.push((device, made(device, place, *steps)));
         }
     }
     traces
+}
+
+/// The traces of this profile about the service sheet.
+pub fn sheet_events(profile: Profile) -> Vec<(&'static Device, Vec<Event>)> {
+    let mut traces = Vec::new();
+    for (place, (is_for, (of, steps))) in MADE_FOR_SHEET.iter().enumerate() {
+        let devices = DEVICES.iter().filter(|device| is_for(device));
+        for device in devices.filter(|_| *of == profile) {
+            traces.push((device, made(device, place, *steps)));
+        }
+    }
+    traces
+}
+
+/// The events of one trace; its place in its list seeds the random choices that are left.
+fn made(device: &'static Device, place: usize, steps: Steps) -> Vec<Event> {
+    let mut maker = Maker::new(device, place as u64, 0);
+    steps(&mut maker);
+    maker.events
 }
 
 impl Maker {
@@ -109,6 +145,19 @@ impl Maker {
             self.send_at(code, address, &[data]);
             self.send(&[RDSR, 0]);
         }
+    }
+
+    /// A byte for the last cell of the first page that these status bits protect. It brings the address back to the
+    /// start of the page, which is then the entry itself.
+    fn write_just_above(&mut self, status: u8) {
+        let first = self.device.first_protected(status);
+        self.write_bytes(first + self.device.page - 1, &[0]);
+    }
+
+    /// A byte for the last cell but one below the entry, which leaves the address at the last.
+    fn write_just_below(&mut self, status: u8) {
+        let first = self.device.first_protected(status);
+        self.write_bytes(first - 2, &[0]);
     }
 
     /// Enables and starts a cycle that writes one cell.
@@ -426,4 +475,31 @@ fn deselects_in_hold(maker: &mut Maker) {
     maker.put(&events);
     maker.put(&[HOLD, Event::Select(true), RELEASE]);
     maker.send(&[RDSR, 0]);
+}
+
+/// With BP 00 a write that leaves the address at the last cell is done.
+fn protects_nothing(maker: &mut Maker) {
+    maker.enable();
+    maker.write_just_below(0x00);
+    maker.settle();
+}
+
+/// With BP 01 writes on both sides of the entry, where SRWD must not count. The dropped one leaves WEL for the other.
+fn protects_a_quarter_with_srwd(maker: &mut Maker) {
+    maker.set_status(0x84);
+    maker.enable();
+    maker.write_just_above(0x84);
+    maker.write_just_below(0x84);
+    maker.settle();
+}
+
+/// With BP 10 and 11 a write that is dropped; the first leaves WEL for the WRSR.
+fn protects_half_and_all(maker: &mut Maker) {
+    maker.set_status(0x88);
+    maker.enable();
+    maker.write_just_above(0x88);
+    maker.send(&[WRSR, 0x8C]);
+    maker.settle();
+    maker.enable();
+    maker.write_just_above(0x8C);
 }

@@ -237,6 +237,7 @@ impl Mistaken<'_> {
             }
             _ => {}
         }
+        self.address_sent = self.chip.state.address;
     }
 
     fn after_identification_address(&mut self, was: &State) {

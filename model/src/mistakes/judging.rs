@@ -1,7 +1,7 @@
 //! Mistakes about what is judged at the rise of S (document 01, "Instructions").
 
 use super::Mistaken;
-use crate::device::{BP, DEVICES, SRWD};
+use crate::device::{BP, SRWD};
 use crate::fault::Fault;
 use crate::state::{Cycle, Instruction, State};
 
@@ -93,19 +93,16 @@ impl Mistaken<'_> {
         }
     }
 
-    /// Whether a mistaken protection covers the page, or none where the right one is asked.
+    /// Whether a mistaken protection covers the page, or none where the entries are asked; `sheet` makes these wrong.
     fn wrongly_protected(&self) -> Option<bool> {
         let device = self.chip.device;
         let (status, address) = (self.chip.state.status, self.chip.state.address);
         let first = device.first_protected(status);
-        let swapped = (status & 0b0100) << 1 | (status & 0b1000) >> 1;
         let partly = first != 0 && first != device.cells;
         match self.fault {
-            Fault::ProtectionOnePageLess => Some(address >= first + device.page),
-            Fault::ProtectionOnePageMore => Some(address + device.page >= first),
-            Fault::ProtectionBitsSwapped => Some(device.is_protected(swapped, address)),
-            Fault::Device5And6ProtectionAsDevice1 => Some(DEVICES[0].is_protected(status, address)),
             Fault::ProtectionFromBottom if partly => Some(address < device.cells - first),
+            Fault::ProtectionLostWithSrwd if status & SRWD != 0 => Some(false),
+            Fault::ProtectionFirstAddressOpen if self.address_sent == first => Some(false),
             _ => None,
         }
     }

@@ -28,6 +28,7 @@ pub(super) fn limited(fault: Fault, device: &Device) -> Fault {
         Fault::WrsrIgnoresProtectOnDevice1 => (Fault::WrsrIgnoresProtect, &[1]),
         Fault::WrsrIgnoresProtect => (fault, &[2, 3, 4, 7]),
         Fault::Device3WriteTimeAsOthers => (fault, &[3]),
+        Fault::Device3And4RowsExchanged => (fault, &[3, 4]),
 
         Fault::Device5AddressBit7Counts => (Fault::AddressAboveArrayCounts, &[5]),
         Fault::Device6AddressBit7Ignored => (Fault::AddressMaskOneBitShort, &[6]),
@@ -35,6 +36,7 @@ pub(super) fn limited(fault: Fault, device: &Device) -> Fault {
 
         Fault::Device5And6PageIs32
         | Fault::Device5And6ProtectionAsDevice1
+        | Fault::Device5And6RowsExchanged
         | Fault::Device5And6ShortBit3Counts
         | Fault::Device5And6ArrayBit3Counts
         | Fault::Device5And6Address8IsTopBit => (fault, &[5, 6]),

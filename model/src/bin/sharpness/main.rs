@@ -24,7 +24,8 @@ use views::Views;
 const RECORDS: usize = 3_000;
 /// A malformed trace is about its end, so it may be short.
 const MALFORMED_RECORDS: usize = 200;
-const SEEDS: u64 = 8;
+/// With fewer of them some entries of the sheet are never met.
+const SEEDS: u64 = 24;
 const USE: &str = "use: sharpness [SEEDS] or sharpness --stored DIR";
 
 /// Faults that cannot show, and why.
