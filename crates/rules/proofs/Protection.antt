@@ -8,9 +8,9 @@ use lib.Dec.{eqb, leb, ltb}
 use borrow.Author.Tests.{leb-true, leb-false, ltb-true, ltb-false, lt-ltb, le-leb, lt-leb, not-true}
 use Rattle.rules.specs.World.{Row}
 use Rattle.rules.specs.Device.{table, m95040, rowOf, firstProtected}
-use Rattle.rules.specs.Judge.{isProtected}
+use Rattle.rules.specs.Judge.{blocks, isProtected}
 use Rattle.rules.specs.Sound.{_implies_}
-use Rattle.rules.specs.Protection.{upper, ProtectionUnchanged, AskedOfTheSheet, ProtectedByPage, NoneProtected}
+use Rattle.rules.specs.Protection.{upper, ProtectionUnchanged, AskedUnchanged, ProtectedByPage, NoneProtected}
 use Rattle.rules.proofs.Choice.{clash, and-left, and-right, and-both, or-both, implied, below, passes}
 use Rattle.rules.proofs.Widths.{read-test, page-positive}
 
@@ -59,22 +59,25 @@ module _ (cells bp first a : ℕ) (turn : isTurn cells bp first ≡ true) where
       go false e = e ∙ sym (not-before (leb-false first a e))
 
 -- The test of a row: the entry of each setting.
-abbrev isSetting : Row → ℕ → Bool
-isSetting row bp = isTurn (row .cells) bp (firstProtected row bp)
+abbrev turnsUnder : Row → ℕ → Bool
+turnsUnder row bp = isTurn (row .cells) bp (firstProtected row bp)
 
-isSheet : Row → Bool
-isSheet row = below 4 (isSetting row)
+turnsAsPrinted : Row → Bool
+turnsAsPrinted row = below 4 (turnsUnder row)
 
 -- The checker computes it for every row of the table.
 pub protection-unchanged : ProtectionUnchanged
-unfolding isSheet isProtected
+unfolding turnsAsPrinted isProtected
 protection-unchanged device bp a setting inside =
     let row = rowOf device in
-    let sheet : isSheet row ≡ true = read-test isSheet table refl (device - 1) m95040 refl in
-    turned (row .cells) bp (firstProtected row bp) a (passes 4 (isSetting row) sheet bp setting) inside
+    let sheet : turnsAsPrinted row ≡ true = read-test turnsAsPrinted table refl (device - 1) m95040 refl in
+    turned (row .cells) bp (firstProtected row bp) a (passes 4 (turnsUnder row) sheet bp setting) inside
 
-pub asked-of-the-sheet : AskedOfTheSheet
-asked-of-the-sheet row w sound = (mod-lt (w .state .registers .status / 4) (omega arith), sound .unsettled .inside)
+pub asked-unchanged : AskedUnchanged
+asked-unchanged device w sound =
+    let s = w .state in
+    let setting : blocks s < 4 = mod-lt (s .registers .status / 4) (omega arith) in
+    protection-unchanged device (blocks s) (s .place .address) setting (sound .unsettled .inside)
 
 -- A page's start that is not past an address is not past the start of its page.
 not-past : (p start a : ℕ) → 0 < p → start % p ≡ 0 → start ≤ a → start ≤ a - a % p
@@ -111,5 +114,5 @@ pub none-protected : NoneProtected
 unfolding isProtected
 none-protected row v bp = (
   λ none a inside. rw none (lt-leb (row .cells) a inside),
-  nothing-past (firstProtected row bp) (row .cells) (v .beginsInside bp),
+  nothing-past (firstProtected row bp) (row .cells) (v .beginsWithin bp),
 )

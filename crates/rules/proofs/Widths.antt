@@ -32,11 +32,11 @@ halvings zero n = 0
 halvings (suc most) n = if ltb 1 n then suc (halvings most (n / 2)) else 0
 
 -- An address no further than the cells' end, and a page's start.
-abbrev isInside : Row → ℕ → Bool
-isInside row a = leb a (row .cells)
+abbrev isWithin : Row → ℕ → Bool
+isWithin row a = leb a (row .cells)
 
-abbrev isPage : Row → ℕ → Bool
-isPage row a = eqb (a % row .page) 0
+abbrev isPageStart : Row → ℕ → Bool
+isPageStart row a = eqb (a % row .page) 0
 
 -- The test of a row, a line for each fact of `Widths`.
 abbrev tests : Row → List Bool
@@ -52,8 +52,8 @@ tests row =
     ∷ leb (row .page) 256
     ∷ (hasIdentification row implies eqb (row .identification) (row .page))
     ∷ leb (length (code row)) (row .identification)
-    ∷ all (map (isInside row) (entries row))
-    ∷ all (map (isPage row) (entries row))
+    ∷ all (map (isWithin row) (entries row))
+    ∷ all (map (isPageStart row) (entries row))
     ∷ leb 1 (row .width)
     ∷ leb (row .width) 3
     ∷ leb (row .cells) (256 ^ row .width * (if hasA8 row then 2 else 1))
@@ -85,8 +85,8 @@ widths row e =
       pageMost = leb-true _ _ (bounds .1 .1 .0);
       whole = λ has. eqb-true _ _ (implied (hasIdentification row) (eqb (row .identification) (row .page)) (page .0) has);
       codeFits = leb-true _ _ (page .1 .0);
-      beginsInside = λ bp. leb-true _ _ (entry-read row (isInside row) (sheet .0) bp);
-      beginsPage = λ bp. eqb-true _ _ (entry-read row (isPage row) (sheet .1 .0) bp);
+      beginsWithin = λ bp. leb-true _ _ (entry-read row (isWithin row) (sheet .0) bp);
+      beginsPage = λ bp. eqb-true _ _ (entry-read row (isPageStart row) (sheet .1 .0) bp);
       oneByte = leb-true _ _ (address .0);
       threeBytes = leb-true _ _ (address .1 .0);
       reach = leb-true _ _ (address .1 .1 .0);

@@ -79,7 +79,7 @@ pub record Widths (row : Row) : Type 0 where
   pub whole : hasIdentification row ≡ true → row .identification ≡ row .page
   pub codeFits : length (code row) ≤ row .identification
   -- Whatever the setting, protection begins where a page does, or where the cells end.
-  pub beginsInside : (bp : ℕ) → firstProtected row bp ≤ row .cells
+  pub beginsWithin : (bp : ℕ) → firstProtected row bp ≤ row .cells
   pub beginsPage : (bp : ℕ) → firstProtected row bp % row .page ≡ 0
   -- The address bytes, with the code's address bit where there is one, reach every cell.
   pub oneByte : 1 ≤ row .width

@@ -4,19 +4,23 @@ use Rattle.rules.specs.Device.{rowOf, firstProtected, Widths}
 use Rattle.rules.specs.Judge.{blocks, isProtected}
 use Rattle.rules.specs.Sound.{Sound}
 
--- What a setting protects, in the words of 01: 01 the upper quarter of the cells, 10 the upper half, 11 all, 00 nothing.
+-- What a setting protects by document 01, from the cell count: under BP 01 the top quarter, under 10 the top half, under 11 everything, under
+-- 00 nothing.
 abbrev pub upper : ℕ → ℕ → ℕ → Bool
 upper cells bp a = eqb bp 1 && leb (cells / 4 * 3) a || eqb bp 2 && leb (cells / 2) a || eqb bp 3
+
+-- The sheet and that arithmetic agree.
+abbrev pub Unchanged : ℕ → ℕ → ℕ → Type 0
+Unchanged device bp a = isProtected (rowOf device) bp a ≡ upper (rowOf device .cells) bp a
 
 -- The theorem `protection-unchanged`: for every device, every setting and every address that is a cell's. (At the cells' end, where there
 -- is none, the sheet's one comparison says protected under 00 too.)
 abbrev pub ProtectionUnchanged : Type 0
-ProtectionUnchanged =
-    (device bp a : ℕ) → bp < 4 → a < rowOf device .cells → isProtected (rowOf device) bp a ≡ upper (rowOf device .cells) bp a
+ProtectionUnchanged = (device bp a : ℕ) → bp < 4 → a < rowOf device .cells → Unchanged device bp a
 
--- The theorem `asked-of-the-sheet`: no sound state asks about another setting or address.
-abbrev pub AskedOfTheSheet : Type 0
-AskedOfTheSheet = (row : Row) (w : World) → Sound row w → (blocks (w .state) < 4) × (w .state .place .address < row .cells)
+-- The theorem `asked-unchanged`: so for what any sound state asks when S rises, which is its own setting and address.
+abbrev pub AskedUnchanged : Type 0
+AskedUnchanged = (device : ℕ) (w : World) → Sound (rowOf device) w → Unchanged device (blocks (w .state)) (w .state .place .address)
 
 -- The theorem `protected-by-page`: an address answers as the start of its page does, so a page is protected whole or not at all.
 abbrev pub ProtectedByPage : Type 0

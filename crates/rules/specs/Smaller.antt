@@ -20,7 +20,8 @@ m95010-write-0a = (5, wren ∷ say (0x0A ∷ 0x7E ∷ 0x55 ∷ []) ∷ full ∷ 
 abbrev pub m95020-write-0a : Line
 m95020-write-0a = (6, wren ∷ say (0x0A ∷ 0xFE ∷ 0x55 ∷ []) ∷ full ∷ cell 0xFE ∷ ask (0x0B ∷ 0xFE ∷ []) 1 ∷ [], 0x55 ∷ 0x55 ∷ [])
 
--- The cells: 80h is no address of its own on the M95010, and READ goes on from each device's last cell to cell 0.
+-- The cells: 80h is no address of its own on the M95010, and READ goes on from each device's last cell to cell 0. On the M95020 7Fh holds a
+-- byte of its own, so that FFh is not taken for it.
 abbrev pub m95010-one-cell : Line
 m95010-one-cell =
     (5, wren ∷ say (0x02 ∷ 0x80 ∷ 0x66 ∷ []) ∷ full ∷ cell 0 ∷ ask (0x03 ∷ 0x00 ∷ []) 1 ∷ ask (0x03 ∷ 0x80 ∷ []) 1 ∷ [], 0x66 ∷ 0x66 ∷ 0x66 ∷ [])

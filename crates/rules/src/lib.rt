@@ -10,8 +10,8 @@ pub struct Sheet {
     pub bp11: usize,
 }
 
-// One row of the device table (document 01, "What the bench models"; document 02, W-202). The identification page has a length of its
-// own: a page, or 0 where the device has none.
+// One row of the device table (document 01, "What the bench models"; document 02, W-202 and W-203). The identification page has a length
+// of its own: a page, or 0 where the device has none.
 pub struct Row {
     pub cells: usize,
     pub page: usize,
