@@ -28,7 +28,7 @@ pub struct Device {
     pub identification_code: &'static [u8],
     /// The row of the service sheet: the first protected address for the block settings 00, 01, 10 and 11, each a
     /// multiple of the page. Where the sheet says "none" it is the number of cells, which no address reaches.
-    pub first_protected: [usize; 4],
+    pub sheet: [usize; 4],
 }
 
 /// The table itself, in the order of the device numbers.
@@ -43,7 +43,7 @@ pub const DEVICES: [Device; 7] = [
         has_srwd: false,
         identification: 16,
         identification_code: &[],
-        first_protected: [0x200, 0x180, 0x100, 0],
+        sheet: [0x200, 0x180, 0x100, 0],
     },
     Device {
         number: 2,
@@ -55,7 +55,7 @@ pub const DEVICES: [Device; 7] = [
         has_srwd: true,
         identification: 64,
         identification_code: &[],
-        first_protected: [0x4000, 0x3000, 0x2000, 0],
+        sheet: [0x4000, 0x3000, 0x2000, 0],
     },
     Device {
         number: 3,
@@ -67,7 +67,7 @@ pub const DEVICES: [Device; 7] = [
         has_srwd: true,
         identification: 256,
         identification_code: &[],
-        first_protected: [0x20000, 0x18000, 0x10000, 0],
+        sheet: [0x20000, 0x18000, 0x10000, 0],
     },
     Device {
         number: 4,
@@ -79,7 +79,7 @@ pub const DEVICES: [Device; 7] = [
         has_srwd: true,
         identification: 256,
         identification_code: &IDENTIFICATION_CODE,
-        first_protected: [0x40000, 0x30000, 0x20000, 0],
+        sheet: [0x40000, 0x30000, 0x20000, 0],
     },
     Device {
         number: 5,
@@ -91,7 +91,7 @@ pub const DEVICES: [Device; 7] = [
         has_srwd: false,
         identification: 0,
         identification_code: &[],
-        first_protected: [0x80, 0x60, 0x40, 0],
+        sheet: [0x80, 0x60, 0x40, 0],
     },
     Device {
         number: 6,
@@ -103,7 +103,7 @@ pub const DEVICES: [Device; 7] = [
         has_srwd: false,
         identification: 0,
         identification_code: &[],
-        first_protected: [0x100, 0xC0, 0x80, 0],
+        sheet: [0x100, 0xC0, 0x80, 0],
     },
     Device {
         number: 7,
@@ -115,7 +115,7 @@ pub const DEVICES: [Device; 7] = [
         has_srwd: true,
         identification: 0,
         identification_code: &[],
-        first_protected: [0x4000, 0x3000, 0x2000, 0],
+        sheet: [0x4000, 0x3000, 0x2000, 0],
     },
 ];
 
@@ -178,6 +178,6 @@ impl Device {
 
     /// The entry of the sheet for the block setting that `status` holds.
     pub fn first_protected(&self, status: u8) -> usize {
-        self.first_protected[usize::from((status & BP) >> 2)]
+        self.sheet[usize::from((status & BP) >> 2)]
     }
 }

@@ -1,7 +1,10 @@
 //! The named faults: each is wrong at its own place only. `sharpness` shows that it is wrong there.
 
+mod common;
+
 use std::process::Command;
 
+use common::write_at;
 use m95_model::generate::{loads, states, trace, view_bytes, views, Profile, View};
 use m95_model::{
     append_record, is_sound, is_sound_wrongly, load, load_wrongly, play, play_wrongly, view,
@@ -101,21 +104,12 @@ fn send(trace: &mut Vec<u8>, bytes: &[u8]) {
 
 /// A WRITE of one byte with this block setting.
 fn write_with(row: &Device, setting: usize, address: usize) -> Vec<u8> {
-    let a8 = if row.code_brings_a8() {
-        address >> 8
-    } else {
-        0
-    };
-    let mut command = vec![0x02 | (a8 as u8) << 3];
-    let bytes = (address as u32).to_be_bytes();
-    command.extend(&bytes[4 - usize::from(row.address_bytes)..]);
-    command.push(0x5A);
     let mut trace = Vec::new();
     send(&mut trace, &[0x06]);
     send(&mut trace, &[0x01, (setting << 2) as u8]);
     append_record(&mut trace, Event::Wait(row.write_time));
     send(&mut trace, &[0x06]);
-    send(&mut trace, &command);
+    send(&mut trace, &write_at(row, address));
     trace
 }
 
@@ -129,7 +123,7 @@ fn entry_named(fault: Fault) -> Option<(u8, usize)> {
 
 /// The pages on both sides of each entry of a row.
 fn pages_at_entries(row: &Device) -> Vec<usize> {
-    let entries = row.first_protected.into_iter();
+    let entries = row.sheet.into_iter();
     let pages = entries.flat_map(|entry| [entry.checked_sub(row.page), Some(entry)]);
     pages.flatten().filter(|page| *page < row.cells).collect()
 }
@@ -140,7 +134,7 @@ fn an_entry_is_wrong_on_its_device_with_its_setting_and_nowhere_else() {
     let faults: Vec<_> = Fault::ALL.iter().filter_map(named).collect();
     assert_eq!(faults.len(), 4 * DEVICES.len());
     for row in &DEVICES {
-        for (setting, entry) in row.first_protected.into_iter().enumerate() {
+        for (setting, entry) in row.sheet.into_iter().enumerate() {
             // A page too high opens the page above, and for 00 a page too low closes the one below.
             let below = if setting == 0 { row.page } else { 0 };
             for page in pages_at_entries(row) {

@@ -2,8 +2,8 @@
 
 mod common;
 
-use common::Board;
-use m95_model::{Device, DEVICES, SRWD};
+use common::{write_at, Board};
+use m95_model::{DEVICES, SRWD};
 
 /// The numbers 2 BP1 + BP0.
 const SETTINGS: std::ops::Range<u8> = 0..4;
@@ -39,22 +39,11 @@ fn the_sheet_answers_as_the_arithmetic_for_every_address() {
 #[test]
 fn every_entry_is_a_multiple_of_the_page_and_at_most_the_cell_count() {
     for row in &DEVICES {
-        for (setting, entry) in row.first_protected.into_iter().enumerate() {
+        for (setting, entry) in row.sheet.into_iter().enumerate() {
             let place = format!("{} BP {setting:02b} {entry:X}h", row.name);
             assert!(entry <= row.cells, "{place}");
             assert!(entry.is_multiple_of(row.page), "{place}");
         }
-    }
-}
-
-/// WRITE of one byte, with A8 in the code where the device has it there.
-fn write_at(row: &Device, address: usize) -> Vec<u8> {
-    let byte = |shift: usize| (address >> shift) as u8;
-    match row.address_bytes {
-        1 if row.code_brings_a8() => vec![0x02 | byte(8) << 3, byte(0), 0x5A],
-        1 => vec![0x02, byte(0), 0x5A],
-        2 => vec![0x02, byte(8), byte(0), 0x5A],
-        _ => vec![0x02, byte(16), byte(8), byte(0), 0x5A],
     }
 }
 

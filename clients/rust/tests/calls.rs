@@ -1,45 +1,14 @@
 //! The wrapper's calls beside the second model's: generated traces of every profile whole, in pieces and event by event, the numbers
 //! of lent buffers, views, and states of any bytes. Nothing is expected of either but what the other says.
 
+mod common;
+
+use common::Buffers;
 use m95_model::generate::{
     events, records_of, trace_with_tail, view_bytes, views, Profile, Random, View, TAILS,
 };
 use m95_model::{Device, Event, Fault, Number, Output, State, DEVICES};
-use proved::{kind, pin, refused, Lent, Region, STATE_BYTES};
-
-/// A device's buffers, for one of the two.
-#[derive(Clone, PartialEq)]
-struct Buffers {
-    state: Vec<u8>,
-    cells: Vec<u8>,
-    identification: Vec<u8>,
-    latch: Vec<u8>,
-}
-
-impl Buffers {
-    fn new(device: usize) -> Buffers {
-        Buffers {
-            state: vec![0xA5; STATE_BYTES],
-            cells: vec![0xA5; proved::cells(device)],
-            identification: vec![0xA5; proved::identification(device)],
-            latch: vec![0xA5; 2 * proved::page(device)],
-        }
-    }
-
-    fn lent(&mut self) -> Lent<'_> {
-        Lent {
-            state: &mut self.state,
-            cells: &mut self.cells,
-            identification: &mut self.identification,
-            latch: &mut self.latch,
-        }
-    }
-
-    /// All that the device stores.
-    fn stored(&self) -> (&[u8], &[u8], &[u8]) {
-        (&self.cells, &self.identification, &self.latch)
-    }
-}
+use proved::{kind, pin, refused, Region, STATE_BYTES};
 
 /// Both prepared.
 fn prepared(device: usize) -> (Buffers, Buffers, State) {

@@ -5,16 +5,16 @@ use crate::fault::Fault;
 
 /// The row of this device with the mistake in its entries, or none where the mistake is of another kind.
 pub(super) fn wrong_row(fault: Fault, device: &Device) -> Option<Device> {
-    let first_protected = wrong_in_all(fault, device).or_else(|| wrong_in_one(fault, device))?;
+    let sheet = wrong_in_all(fault, device).or_else(|| wrong_in_one(fault, device))?;
     Some(Device {
-        first_protected,
+        sheet,
         ..device.clone()
     })
 }
 
 /// The entries with a mistake that any row can have, and those of another row.
 fn wrong_in_all(fault: Fault, device: &Device) -> Option<[usize; 4]> {
-    let right = device.first_protected;
+    let right = device.sheet;
     let [none, quarter, half, all] = right;
     let wrong = match fault {
         Fault::ProtectionOnePageLess => right.map(|entry| entry + device.page),
@@ -37,13 +37,13 @@ fn wrong_in_all(fault: Fault, device: &Device) -> Option<[usize; 4]> {
 }
 
 fn entries_of(number: u8) -> [usize; 4] {
-    DEVICES[usize::from(number) - 1].first_protected
+    DEVICES[usize::from(number) - 1].sheet
 }
 
 /// The entries with a mistake in the row of one device: its name is `Device`, the number and what is wrong there. The
 /// other devices have theirs. For 00 an entry too high would change nothing, so there it is too low.
 fn wrong_in_one(fault: Fault, device: &Device) -> Option<[usize; 4]> {
-    let right = device.first_protected;
+    let right = device.sheet;
     let ([none, quarter, half, all], page) = (right, device.page);
     let name = format!("{fault:?}");
     let (number, mistake) = name.strip_prefix("Device")?.split_at_checked(1)?;

@@ -18,6 +18,17 @@ pub struct Board {
 pub const RISE: Event = Event::Clock(true);
 pub const FALL: Event = Event::Clock(false);
 
+/// WRITE of one byte, with A8 in the code where the device has it there.
+pub fn write_at(row: &Device, address: usize) -> Vec<u8> {
+    let byte = |shift: usize| (address >> shift) as u8;
+    match row.address_bytes {
+        1 if row.code_brings_a8() => vec![0x02 | byte(8) << 3, byte(0), 0x5A],
+        1 => vec![0x02, byte(0), 0x5A],
+        2 => vec![0x02, byte(8), byte(0), 0x5A],
+        _ => vec![0x02, byte(16), byte(8), byte(0), 0x5A],
+    }
+}
+
 impl Board {
     pub fn new(number: u8) -> Board {
         let device = device(number).expect("a device of the table");
