@@ -14,6 +14,14 @@ use Rattle.rules.specs.Protection.{upper, ProtectionUnchanged, AskedUnch
 use Rattle.rules.proofs.Choice.{clash, and-left, and-right, and-both, or-both, implied, below, passes}
 use Rattle.rules.proofs.Widths.{read-test, page-positive}
 
+-- A comparison is whatever holds where it does and fails where it does not.
+leb-is : (m n : ℕ) {b : Bool} → (m ≤ n → b ≡ true) → (n < m → b ≡ false) → leb m n ≡ b
+leb-is m n {b} f g = go (leb m n) refl
+  where
+    go : (c : Bool) → leb m n ≡ c → leb m n ≡ b
+    go true e = e ∙ sym (f (leb-true m n e))
+    go false e = e ∙ sym (g (leb-false m n e))
+
 -- What the arithmetic protects reaches up to the last cell.
 module _ (cells bp a b : ℕ) (h : a ≤ b) where
   further : (setting edge : ℕ) → (eqb bp setting && leb edge a) ≡ true → (eqb bp setting && leb edge b) ≡ true
@@ -52,11 +60,7 @@ module _ (cells bp first a : ℕ) (turn : isTurn cells bp first ≡ true) where
       go true e = clash (sym (reaches-up cells bp a (first - 1) (omega arith) e) ∙ before)
 
   turned : a < cells → leb first a ≡ upper cells bp a
-  turned inside = go (leb first a) refl
-    where
-      go : (b : Bool) → leb first a ≡ b → leb first a ≡ upper cells bp a
-      go true e = e ∙ sym (from-there inside (leb-true first a e))
-      go false e = e ∙ sym (not-before (leb-false first a e))
+  turned inside = leb-is first a (from-there inside) not-before
 
 -- The test of a row: the entry of each setting.
 abbrev turnsUnder : Row → ℕ → Bool
@@ -92,11 +96,8 @@ not-past p start a positive aligned h = go (ltb (a / p) (start / p)) refl
         omega (arith, earlier, div-add-mod' a p, div-add-mod' start p)
 
 by-page : (p first a : ℕ) → 0 < p → first % p ≡ 0 → leb first a ≡ leb first (a - a % p)
-by-page p first a positive aligned = go (leb first a) refl
-  where
-    go : (b : Bool) → leb first a ≡ b → leb first a ≡ leb first (a - a % p)
-    go true e = e ∙ sym (le-leb first (a - a % p) (not-past p first a positive aligned (leb-true first a e)))
-    go false e = e ∙ sym (lt-leb first (a - a % p) (omega (arith, leb-false first a e)))
+by-page p first a positive aligned =
+    leb-is first a (λ h. le-leb first (a - a % p) (not-past p first a positive aligned h)) (λ h. lt-leb first (a - a % p) (omega arith))
 
 pub protected-by-page : ProtectedByPage
 unfolding isProtected
