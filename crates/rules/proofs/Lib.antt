@@ -3,6 +3,10 @@ pub mod Opened
 pub mod Examples
 pub mod Readings
 pub mod Smaller
+pub mod PrepareLines
+pub mod EventLines
+pub mod RunLines
+pub mod ViewLines
 pub mod Refusals
 pub mod Unsound
 pub mod Printed

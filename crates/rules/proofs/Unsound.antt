@@ -1,7 +1,7 @@
 -- The theorem `unsound`: a law for each line, by computation, and the whole table from them.
 use mathlib.Core.Path.{refl}
 use Rattle.rules.specs.World.{none, _and_}
-use Rattle.rules.specs.Refusals.{Gives, Given}
+use Rattle.rules.specs.Lines.{Gives, Given}
 use Rattle.rules.specs.Unsound as spec
 use Rattle.rules.proofs.Opened.{calls}
 

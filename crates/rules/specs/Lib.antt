@@ -18,5 +18,10 @@ pub mod Selections
 pub mod Recorded
 pub mod Loaded
 pub mod Protection
+pub mod Lines
+pub mod PrepareLines
+pub mod EventLines
+pub mod RunLines
+pub mod ViewLines
 pub mod Refusals
 pub mod Unsound

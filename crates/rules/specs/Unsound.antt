@@ -3,7 +3,7 @@
 use Rattle.rules.specs.World.{ℕ, Bool, true, false, List, [], _∷_, replicate, Instruction, Kind, Level, Event, State, World, worldOf, withPins, withSelection, withStored, withState}
 use Rattle.rules.specs.Device.{preparedState}
 use Rattle.rules.specs.Call.{repliedAs}
-use Rattle.rules.specs.Refusals.{Line, event, good, astray, busy, chosen}
+use Rattle.rules.specs.Lines.{Line, event, good, astray, busy, chosen}
 
 abbrev refused : State → Line
 refused s = event 1 (withState s good) (Event.Data true) (repliedAs 5 2 (withState s good))
