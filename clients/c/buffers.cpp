@@ -8,6 +8,7 @@
 namespace {
 
 using Bytes = std::vector<uint8_t>;
+using Counts = std::vector<uint16_t>;
 
 std::size_t failed = 0;
 
@@ -21,19 +22,23 @@ void expect(bool holds, const char *what, std::size_t device) {
 struct Chip {
     std::size_t device;
     Bytes state, cells, identification, latch;
+    Counts counts;
 
     explicit Chip(std::size_t number)
-        : device(number), state(M95_STATE_BYTES), cells(m95_cells(number)), identification(m95_identification(number)), latch(2 * m95_page(number)) {}
+        : device(number), state(M95_STATE_BYTES), cells(m95_cells(number)), identification(m95_identification(number)), latch(2 * m95_page(number)),
+          counts(m95_pages(number)) {}
 
     std::size_t refusal() const {
         return m95_refusal(device, state.data(), state.size(), cells.data(), cells.size(), identification.data(), identification.size(),
-                           latch.data(), latch.size());
+                           latch.data(), latch.size(), counts.data(), counts.size());
     }
 
     std::size_t prepare() {
         return m95_prepare(device, state.data(), state.size(), cells.data(), cells.size(), identification.data(), identification.size(),
-                           latch.data(), latch.size());
+                           latch.data(), latch.size(), counts.data(), counts.size());
     }
+
+    std::size_t count() { return m95_count_pages(device, cells.data(), cells.size(), counts.data(), counts.size()); }
 
     std::size_t view(std::size_t region) const {
         std::size_t start = 9, length = 9;
@@ -43,7 +48,8 @@ struct Chip {
     std::size_t run(const Bytes &trace, Bytes &answers, std::size_t &done) {
         std::size_t taken = 0;
         return m95_run(device, state.data(), state.size(), cells.data(), cells.size(), identification.data(), identification.size(),
-                       latch.data(), latch.size(), trace.data(), trace.size(), answers.data(), answers.size(), SIZE_MAX, &taken, &done);
+                       latch.data(), latch.size(), counts.data(), counts.size(), trace.data(), trace.size(), answers.data(), answers.size(),
+                       SIZE_MAX, &taken, &done);
     }
 };
 
@@ -72,8 +78,8 @@ Bytes at_zero(std::size_t device, uint8_t code) {
     return bytes;
 }
 
-// WREN, WRITE of A5h to cell 0, a wait, and READ of it.
-void write_and_read(Chip &chip) {
+// WREN, WRITE of A5h to cell 0, a wait, and READ of it. The cells of the page other than FFh are counted, so many with this one.
+void write_and_read(Chip &chip, std::size_t count) {
     Bytes trace, write = at_zero(chip.device, 0x02);
     write.push_back(0xA5);
     put_command(trace, Bytes{0x06}, 0);
@@ -88,24 +94,31 @@ void write_and_read(Chip &chip) {
         read = read << 1 | answers[done - 2 - 3 * (8 - k)];
     }
     expect(read == 0xA5 && chip.cells[0] == 0xA5, "the byte is stored and read", chip.device);
+    expect(chip.counts[0] == count, "it is counted", chip.device);
 }
 
 // Vectors of no bytes, one at a time and then all of them. For an identification page that the device has not, one is right.
 void lend_nothing(const Chip &good) {
     const std::size_t page = good.identification.empty() ? M95_DONE : M95_REFUSED_IDENTIFICATION;
-    const std::size_t numbers[] = {M95_REFUSED_STATE, M95_REFUSED_CELLS, page, M95_REFUSED_LATCH, M95_REFUSED_CELLS};
-    const std::size_t views[] = {M95_DONE, M95_REFUSED_CELLS, page, M95_DONE, M95_REFUSED_CELLS};
-    for (std::size_t none = 0; none <= 4; none++) {
+    const std::size_t all = 5;
+    const std::size_t numbers[] = {M95_REFUSED_STATE, M95_REFUSED_CELLS, page, M95_REFUSED_LATCH, M95_REFUSED_COUNTS, M95_REFUSED_CELLS};
+    const std::size_t views[] = {M95_DONE, M95_REFUSED_CELLS, page, M95_DONE, M95_DONE, M95_REFUSED_CELLS};
+    const std::size_t counted[] = {M95_DONE, M95_REFUSED_CELLS, M95_DONE, M95_DONE, M95_REFUSED_COUNTS, M95_REFUSED_CELLS};
+    for (std::size_t none = 0; none <= all; none++) {
         Chip chip = good;
         Bytes *const buffers[] = {&chip.state, &chip.cells, &chip.identification, &chip.latch};
         for (std::size_t k = 0; k < 4; k++) {
-            if (none == k || none == 4) {
+            if (none == k || none == all) {
                 *buffers[k] = Bytes();
             }
+        }
+        if (none == 4 || none == all) {
+            chip.counts = Counts();
         }
         expect(chip.refusal() == numbers[none] && chip.prepare() == numbers[none], "an empty vector is refused, but for one that is right", chip.device);
         expect(chip.view(M95_REGION_CELLS) == views[none], "a view of the cells judges both vectors", chip.device);
         expect(chip.view(M95_REGION_IDENTIFICATION) == views[none], "and so does one of the identification page", chip.device);
+        expect(chip.count() == counted[none], "counting judges cells and counts", chip.device);
     }
 }
 
@@ -132,7 +145,10 @@ int main() {
     for (std::size_t device = 1; device <= 7; device++) {
         Chip chip(device);
         expect(chip.prepare() == M95_DONE && chip.refusal() == M95_DONE, "a device is prepared", device);
-        write_and_read(chip);
+        write_and_read(chip, 1);
+        chip.cells[1] = chip.cells[2] = 0x00;
+        expect(chip.count() == M95_DONE && chip.counts[0] == 3, "the pages are counted afresh", device);
+        write_and_read(chip, 3);
         traces_of_nothing(chip);
         lend_nothing(chip);
         lend_one(device);

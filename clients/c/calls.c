@@ -3,44 +3,52 @@
  * examples that a caller can see, and buffers that a refused call must leave. Prints each expectation that fails, and a last line.
  */
 #include "chip.h"
+#include "counts.h"
 #include "saved.h"
 
 static void sizes(void) {
     static const size_t cells[] = {0, 512, 16384, 131072, 262144, 128, 256, 16384, 0};
-    static const size_t pages[] = {0, 16, 64, 256, 256, 16, 16, 64, 0};
+    static const size_t bytes[] = {0, 16, 64, 256, 256, 16, 16, 64, 0};
     static const size_t identifications[] = {0, 16, 64, 256, 256, 0, 0, 0, 0};
+    static const size_t pages[] = {0, 32, 256, 512, 1024, 8, 16, 256, 0};
     for (size_t device = 0; device <= 8; device++) {
         expect(m95_cells(device) == cells[device], "cells of a device", device);
-        expect(m95_page(device) == pages[device], "page of a device", device);
+        expect(m95_page(device) == bytes[device], "page of a device", device);
         expect(m95_identification(device) == identifications[device], "identification page of a device", device);
+        expect(m95_pages(device) == pages[device], "pages of a device", device);
     }
     expect(m95_cells(257) == 0 && m95_page((size_t)1 << 32 | 1) == 0 && m95_identification(257) == 0, "a large number is no device's", 257);
+    expect(m95_pages(257) == 0 && m95_pages((size_t)1 << 32 | 1) == 0, "nor has it pages", 257);
 }
 
-/* 1 to 5 in their order: each fault alone, and with all that come after it. */
+/* 1 to 4, 14 and 5, which is their order: each fault alone, and with all that come after it. */
 static void refused_buffers(void) {
+    enum { STATE = 5 };
     static const size_t refusals[] = {
-        M95_DONE, M95_REFUSED_DEVICE, M95_REFUSED_CELLS, M95_REFUSED_IDENTIFICATION, M95_REFUSED_LATCH, M95_REFUSED_STATE};
+        M95_REFUSED_DEVICE, M95_REFUSED_CELLS, M95_REFUSED_IDENTIFICATION, M95_REFUSED_LATCH, M95_REFUSED_COUNTS, M95_REFUSED_STATE};
+    static const size_t numbers[] = {1, 2, 3, 4, 14, 5};
     prepare(2);
     /* Bytes that no preparing would leave, so that one which is refused and fills the buffers all the same is seen. */
     chip.cells[3] = chip.identification[5] = 0x5A;
     chip.latch[7] = 0x5A;
+    chip.counts[9] = 0x5A;
     note();
-    for (size_t number = 1; number <= 5; number++) {
+    for (size_t fault = 0; fault <= STATE; fault++) {
         for (int alone = 0; alone <= 1; alone++) {
-            size_t wrong[6] = {0};
-            for (size_t k = number; k <= 5; k++) {
-                wrong[k] = k == number || !alone;
+            size_t wrong[STATE + 1] = {0}, number = numbers[fault];
+            for (size_t k = fault; k <= STATE; k++) {
+                wrong[k] = k == fault || !alone;
             }
-            size_t device = wrong[1] ? 258 : 2, answer = 9, taken = 9, done = 9;
+            size_t device = wrong[0] ? 258 : 2, answer = 9, taken = 9, done = 9;
             uint8_t answers[1] = {7};
-            size_t cells = 16384 - wrong[2], page = 64 + wrong[3], latch = 128 - wrong[4], state = M95_STATE_BYTES - wrong[5];
-#define WRONG chip.state, state, chip.cells, cells, chip.identification, page, chip.latch, latch
-            expect(m95_refusal(device, WRONG) == number && refusals[number] == number, "refusal", number);
+            size_t cells = 16384 - wrong[1], page = 64 + wrong[2], latch = 128 - wrong[3], counts = 256 - wrong[4];
+            size_t state = M95_STATE_BYTES - wrong[STATE];
+#define WRONG chip.state, state, chip.cells, cells, chip.identification, page, chip.latch, latch, chip.counts, counts
+            expect(m95_refusal(device, WRONG) == number && refusals[fault] == number, "refusal", number);
             expect(m95_event(device, WRONG, 9, 99, &answer) == number && answer == M95_Z, "a refused event", number);
             expect(m95_run(device, WRONG, (const uint8_t *)"", 1, answers, 1, 1, &taken, &done) == number, "a refused trace", number);
             expect(taken == 0 && done == 0 && answers[0] == 7, "a refused trace does nothing", number);
-            if (wrong[5]) {
+            if (wrong[STATE]) {
                 expect(m95_prepare(device, WRONG) == number, "refused preparing", number);
             }
             expect(is_as_before(), "refused buffers are left", number);
@@ -61,9 +69,9 @@ static void refused_buffers(void) {
 
 /*
  * NULL with a length of 0 for each pointer that goes with a length, one at a time and then for all: a call gives what it gives for a
- * buffer of no bytes. The places: state, cells, identification, latch, trace, answers.
+ * buffer of no bytes. The places: state, cells, identification, latch, counts, trace, answers.
  */
-enum { NULLS = 6 };
+enum { NULLS = 7, NULL_TRACE = 5, NULL_ANSWERS = 6 };
 
 /* Views of both regions with NULL for the cells, for the identification page, or for both. */
 static void null_views(size_t device, int no_cells, int no_page) {
@@ -80,8 +88,8 @@ static void null_views(size_t device, int no_cells, int no_page) {
 }
 
 static void null_buffers(size_t device) {
-    static const size_t numbers[] = {M95_REFUSED_STATE, M95_REFUSED_CELLS, M95_REFUSED_IDENTIFICATION, M95_REFUSED_LATCH,
-                                     M95_DONE,          M95_REFUSED_ANSWERS, M95_REFUSED_CELLS};
+    static const size_t numbers[] = {M95_REFUSED_STATE,  M95_REFUSED_CELLS, M95_REFUSED_IDENTIFICATION, M95_REFUSED_LATCH,
+                                     M95_REFUSED_COUNTS, M95_DONE,          M95_REFUSED_ANSWERS,        M95_REFUSED_CELLS};
     static const uint8_t record[] = {3, 0, M95_SET_PIN, 0, M95_S};
     uint8_t answers[1] = {7};
     prepare(device);
@@ -92,13 +100,15 @@ static void null_buffers(size_t device) {
             continue; /* Nothing is missing there: no_page() has it. */
         }
 #define GIVEN(place, pointer, length) none == place || none == NULLS ? NULL : (pointer), none == place || none == NULLS ? 0 : (length)
-#define NOT_ALL                                                                                   \
-    GIVEN(0, chip.state, sizeof chip.state), GIVEN(1, chip.cells, m95_cells(device)),             \
-        GIVEN(2, chip.identification, m95_identification(device)), GIVEN(3, chip.latch, 2 * m95_page(device))
-        size_t number = none == 4 || none == 5 ? M95_DONE : numbers[none], answer = 9, taken = 9, done = 9;
+#define NOT_ALL                                                                                                \
+    GIVEN(0, chip.state, sizeof chip.state), GIVEN(1, chip.cells, m95_cells(device)),                          \
+        GIVEN(2, chip.identification, m95_identification(device)), GIVEN(3, chip.latch, 2 * m95_page(device)), \
+        GIVEN(4, chip.counts, m95_pages(device))
+        size_t number = none == NULL_TRACE || none == NULL_ANSWERS ? M95_DONE : numbers[none], answer = 9, taken = 9, done = 9;
         expect(m95_refusal(device, NOT_ALL) == number, "refusal with NULL", none);
         expect(m95_event(device, NOT_ALL, M95_WAIT, 0, &answer) == number && answer == M95_Z, "an event with NULL", none);
-        expect(m95_run(device, NOT_ALL, GIVEN(4, record, sizeof record), GIVEN(5, answers, 1), 1, &taken, &done) == numbers[none],
+        expect(m95_run(device, NOT_ALL, GIVEN(NULL_TRACE, record, sizeof record), GIVEN(NULL_ANSWERS, answers, 1), 1, &taken, &done)
+                   == numbers[none],
                "a trace with NULL", none);
         expect(taken == 0 && done == 0 && answers[0] == 7, "a trace with NULL does nothing", none);
         if (number != M95_DONE) {
@@ -119,17 +129,19 @@ static void nulls(void) {
     expect(m95_status_byte(NULL, 0, &answer) == M95_REFUSED_STATE && answer == 0, "status of NULL", answer);
     first = second = 9;
     expect(m95_stored(NULL, 0, &first, &second) == M95_REFUSED_STATE && first == 0 && second == 0, "stored by NULL", first);
-#define NOTHING NULL, 0, NULL, 0, NULL, 0, NULL, 0
+#define NOTHING NULL, 0, NULL, 0, NULL, 0, NULL, 0, NULL, 0
     expect(m95_refusal(0, NOTHING) == M95_REFUSED_DEVICE && m95_prepare(0, NOTHING) == M95_REFUSED_DEVICE, "no device, no buffers", 0);
     expect(m95_load(0, NULL, 0, 0, 0) == M95_REFUSED_DEVICE, "loading no device into NULL", 0);
+    expect(m95_count_pages(0, NULL, 0, NULL, 0) == M95_REFUSED_DEVICE, "counting nothing", 0);
     expect(m95_event(0, NOTHING, M95_WAIT, 0, &answer) == M95_REFUSED_DEVICE && answer == M95_Z, "an event of nothing", answer);
     expect(m95_run(0, NOTHING, NULL, 0, NULL, 0, 1, &first, &second) == M95_REFUSED_DEVICE, "a trace of nothing", 0);
     expect(m95_view(0, M95_REGION_CELLS, NULL, 0, NULL, 0, 0, &first, &second) == M95_REFUSED_DEVICE, "a view of nothing", 0);
 }
 
 /* The chip's buffers with this for the identification page. */
-#define LENT_WITH(identification, length) \
-    chip.state, sizeof chip.state, chip.cells, m95_cells(chip.device), identification, length, chip.latch, 2 * m95_page(chip.device)
+#define LENT_WITH(identification, length)                                                                                             \
+    chip.state, sizeof chip.state, chip.cells, m95_cells(chip.device), identification, length, chip.latch, 2 * m95_page(chip.device), \
+        chip.counts, m95_pages(chip.device)
 
 /* Devices 5 to 7 have no identification page: NULL does for it in every call, and a byte of it, or a page, gets 3. */
 static void no_page(void) {
@@ -406,6 +418,25 @@ static void traces(void) {
     RUN(8, 9, M95_REFUSED_POWER, 5, 1, 3, 0, 1, 0, 5, 2, 0, 3, 0);
 }
 
+/* A write to a page with a wrong count, as traces: the wait that would end it is refused after all else that is wrong with its record. */
+static void counted_traces(void) {
+    prepare(2);
+    start_write(0, 0x5A, 1);
+    chip.counts[0] = 1;
+    RUN(8, 9, M95_REFUSED_COUNT, 8, 1, 6, 0, 2, 0, 0x87, 0x13, 0, 0, 6, 0, 2, 0, 1, 0, 0, 0, 3, 0, 1, 0, 5);
+    note();
+    RUN(8, 9, M95_REFUSED_COUNT, 0, 0, 6, 0, 2, 0, 1, 0, 0, 0, 3, 0, 1, 0, 5);
+    RUN(8, 0, M95_DONE, 0, 0, 6, 0, 2, 0, 1, 0, 0, 0);
+    RUN(0, 9, M95_REFUSED_ANSWERS, 0, 0, 6, 0, 2, 0, 1, 0, 0, 0);
+    RUN(8, 9, M95_REFUSED_CUT, 0, 0, 6, 0, 2, 0, 1, 0, 0);
+    RUN(8, 9, M95_REFUSED_LENGTH, 0, 0, 5, 0, 2, 0, 1, 0, 0, 0);
+    RUN(8, 9, M95_REFUSED_POWER, 0, 0, 2, 0, 3, 0);
+    expect(is_as_before(), "refused records change nothing", chip.counts[0]);
+    recount();
+    RUN(8, 9, M95_DONE, 13, 2, 6, 0, 2, 0, 1, 0, 0, 0, 3, 0, 1, 0, 5);
+    expect(chip.cells[0] == 0x5A && chip.counts[0] == 1, "the write ends when its page is counted", chip.counts[0]);
+}
+
 /* A view of the chip's buffers, taken to be so long: its number, and where the part is. */
 static void view(size_t device, size_t region, size_t cells, size_t page, size_t address, size_t number, size_t start, size_t length) {
     size_t first = 9, second = 9;
@@ -462,6 +493,12 @@ int main(void) {
     read_by_trace();
     events();
     traces();
+    refused_counts();
+    counting();
+    written_counts();
+    wrong_counts();
+    uncounted_cycles();
+    counted_traces();
     views();
     statuses();
     versions();

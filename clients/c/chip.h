@@ -9,6 +9,7 @@
 
 #define MOST_CELLS 262144
 #define MOST_PAGE 256
+#define MOST_PAGES 1024
 
 struct chip {
     size_t device;
@@ -16,7 +17,11 @@ struct chip {
     uint8_t cells[MOST_CELLS];
     uint8_t identification[MOST_PAGE];
     uint8_t latch[2 * MOST_PAGE];
+    uint16_t counts[2 * MOST_PAGES]; /* with room for a length that was taken to be in bytes */
 };
+
+/* Where version 1 has the two that are loaded. */
+enum { LOCK_AT = 22, STATUS_AT = 31 };
 
 static struct chip chip, before;
 static size_t held, failed;
@@ -36,19 +41,36 @@ static void note(void) {
     memcpy(before.cells, chip.cells, m95_cells(chip.device));
     memcpy(before.identification, chip.identification, m95_identification(chip.device));
     memcpy(before.latch, chip.latch, 2 * m95_page(chip.device));
+    memcpy(before.counts, chip.counts, sizeof chip.counts);
 }
 
 static int is_as_before(void) {
     return memcmp(before.state, chip.state, sizeof chip.state) == 0
            && memcmp(before.cells, chip.cells, m95_cells(chip.device)) == 0
            && memcmp(before.identification, chip.identification, m95_identification(chip.device)) == 0
-           && memcmp(before.latch, chip.latch, 2 * m95_page(chip.device)) == 0;
+           && memcmp(before.latch, chip.latch, 2 * m95_page(chip.device)) == 0
+           && memcmp(before.counts, chip.counts, sizeof chip.counts) == 0;
 }
 
 /* The lent buffers of the chip, with its device's lengths. */
-#define LENT                                                                        \
-    chip.state, sizeof chip.state, chip.cells, m95_cells(chip.device),              \
-        chip.identification, m95_identification(chip.device), chip.latch, 2 * m95_page(chip.device)
+#define LENT                                                                                         \
+    chip.state, sizeof chip.state, chip.cells, m95_cells(chip.device),                               \
+        chip.identification, m95_identification(chip.device), chip.latch, 2 * m95_page(chip.device), \
+        chip.counts, m95_pages(chip.device)
+
+/* Counts the chip's pages after its cells were filled by hand. */
+static void recount(void) {
+    expect(m95_count_pages(chip.device, chip.cells, m95_cells(chip.device), chip.counts, m95_pages(chip.device)) == M95_DONE, "pages are counted",
+           chip.device);
+}
+
+static int has_blank_counts(void) {
+    size_t k = 0;
+    while (k < m95_pages(chip.device) && chip.counts[k] == 0) {
+        k++;
+    }
+    return k == m95_pages(chip.device);
+}
 
 static void prepare(size_t device) {
     chip.device = device;
@@ -56,8 +78,10 @@ static void prepare(size_t device) {
     memset(chip.cells, 0xA5, m95_cells(device));
     memset(chip.identification, 0xA5, m95_identification(device));
     memset(chip.latch, 0xA5, 2 * m95_page(device));
+    memset(chip.counts, 0xA5, sizeof chip.counts);
     expect(m95_prepare(device, LENT) == M95_DONE, "a device is prepared", device);
     expect(m95_refusal(device, LENT) == M95_DONE, "a prepared device is not refused", device);
+    expect(has_blank_counts() && chip.counts[m95_pages(device)] == 0xA5A5, "a prepared device has counts of 0, and no more", device);
 }
 
 static size_t event(size_t kind, size_t value) {

@@ -4,10 +4,12 @@
 #include "m95.h"
 
 #define DEVICE 1
-#define LENT state, sizeof state, cells, sizeof cells, identification, sizeof identification, latch, sizeof latch
+#define PAGES 32 /* a count for each */
+#define LENT state, sizeof state, cells, sizeof cells, identification, sizeof identification, latch, sizeof latch, counts, PAGES
 
 int main(void) {
     static uint8_t state[M95_STATE_BYTES], cells[512], identification[16], latch[32], trace[24 * 5], answers[24];
+    static uint16_t counts[PAGES];
     size_t answer, taken, done, status, number = m95_prepare(DEVICE, LENT);
     for (size_t i = 0; i < 24; i++) { /* 06h, three records a bit: D, C up, C down */
         const uint8_t pins[] = {(uint8_t)(M95_D + (0x06 >> (7 - i / 3) & 1)), M95_C + 1, M95_C};

@@ -12,9 +12,12 @@
 
 #include "m95.h"
 
-#define LENT state, sizeof state, cells, m95_cells(device), identification, m95_identification(device), latch, 2 * m95_page(device)
+#define LENT                                                                                                                \
+    state, sizeof state, cells, m95_cells(device), identification, m95_identification(device), latch, 2 * m95_page(device), \
+        counts, m95_pages(device)
 
 static uint8_t state[M95_STATE_BYTES], cells[262144], identification[256], latch[512], piece[65536], answers[sizeof piece / 4];
+static uint16_t counts[1024];
 
 static int tell(const char *what, const char *why) {
     fprintf(stderr, "host: %s: %s\n", what, why);
@@ -51,6 +54,7 @@ int main(int count, char **words) {
     if (!read_cells(words[4], length)) {
         return 2;
     }
+    m95_count_pages(device, cells, length, counts, m95_pages(device)); /* those of m95_prepare are of blank pages */
     if (m95_load(device, state, sizeof state, number_of(words[2], 16), number_of(words[3], 16)) != M95_DONE) {
         return tell(words[2], "the device has not all of these status bits, or it cannot have this lock");
     }
@@ -65,7 +69,7 @@ int main(int count, char **words) {
         left += more - taken;
         memmove(piece, piece + taken, left);
     } while (more > 0 && (number == M95_DONE || number == M95_REFUSED_CUT));
-    if (ferror(trace) || (M95_REFUSED_DEVICE <= number && number <= M95_REFUSED_STATE)) {
+    if (ferror(trace) || m95_refusal(device, LENT) != M95_DONE) {
         return tell(words[5], "it could not be played to its end");
     }
     FILE *saved = fopen(words[6], "wbx"); /* x: a file that is there already is not written to */

@@ -109,9 +109,6 @@ static void has_stored(size_t status, size_t lock, const char *what) {
     expect(lock_of == lock, what, lock_of);
 }
 
-/* Where version 1 has the two that are loaded. */
-enum { LOCK_AT = 22, STATUS_AT = 31 };
-
 /* One loading into a room that had other bytes: refused they stay; else the state is a prepared one but for what was loaded. */
 static void load(size_t device, size_t status, size_t lock, size_t number) {
     chip.device = device;
@@ -122,7 +119,7 @@ static void load(size_t device, size_t status, size_t lock, size_t number) {
         has_stored(status, lock, "what was loaded");
         expect(m95_refusal(device, LENT) == M95_DONE, "a loaded device is not refused", status);
         m95_prepare(device, before.state, sizeof before.state, before.cells, m95_cells(device), before.identification, m95_identification(device),
-                    before.latch, 2 * m95_page(device));
+                    before.latch, 2 * m95_page(device), before.counts, m95_pages(device));
         before.state[STATUS_AT] = (uint8_t)status;
         before.state[LOCK_AT] = (uint8_t)lock;
     }
@@ -178,6 +175,7 @@ static void loaded(void) {
     prepare(4);
     COMMAND(0x06);
     chip.cells[5] = 0x5A;
+    recount();
     expect(m95_load(4, chip.state, sizeof chip.state, 0x0C, 1) == M95_DONE, "loading a chip", 4);
     expect(status() == 0x0C && lock_status() == 0x01, "a loaded chip", status());
     COMMAND(0x06);

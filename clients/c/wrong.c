@@ -17,6 +17,9 @@ enum way {
     IDENTIFICATION_OF_A_LARGE_NUMBER,
     IDENTIFICATION_OF_NO_DEVICE,
     IDENTIFICATION_AS_LONG_AS_A_PAGE,
+    PAGES_OF_NO_DEVICE,
+    PAGES_OF_A_LARGE_NUMBER,
+    PAGES_WITH_THE_IDENTIFICATION_PAGE,
     PAGE_JUDGED_BEFORE_CELLS,
     NO_STATE_TAKEN,
     LARGE_NUMBER_TAKEN,
@@ -24,17 +27,52 @@ enum way {
     NULL_PAGE_REFUSED_WHERE_THERE_IS_NONE,
     PAGE_TAKEN_WHERE_THERE_IS_NONE,
     STATE_OF_THE_PAGE_TAKEN_WHERE_THERE_IS_NONE,
+    COUNTS_JUDGED_BEFORE_LATCH,
+    COUNTS_JUDGED_AFTER_STATE,
+    COUNTS_LENGTH_IN_BYTES,
+    LONGER_COUNTS_TAKEN,
+    NULL_COUNTS_TAKEN,
+    WRONG_COUNTS_UNSOUND,
     PREPARES_WITHOUT_ROOM_FOR_A_STATE,
     NO_ROOM_FOR_A_STATE_TAKEN,
     REFUSED_PREPARING_GIVES_NO_STATE,
     REFUSED_PREPARING_CHANGES_CELLS,
     NULL_LATCH_PREPARED,
+    COUNTS_UNJUDGED_IN_PREPARING,
+    COUNTS_LEFT_BY_PREPARING,
+    REFUSED_PREPARING_CLEARS_COUNTS,
+    COUNTS_A_LARGE_NUMBER,
+    COUNTS_JUDGED_BEFORE_CELLS,
+    COUNTS_INTO_A_LONGER_BUFFER,
+    COUNTS_INTO_NULL,
+    COUNTS_BLANK_CELLS,
+    COUNTS_WITHOUT_ZEROS,
+    COUNTS_IN_A_BYTE,
+    LAST_PAGE_UNCOUNTED,
+    REFUSED_COUNTING_CLEARS_COUNTS,
     REFUSED_EVENT_ANSWERS_0,
     KIND_REFUSED_AS_PIN,
     PIN_TEN_TAKEN,
     REFUSED_EVENT_CHANGES_THE_LATCH,
     POWER_TAKEN_IN_A_CYCLE,
     EVENT_ON_NULL_CELLS_TAKEN,
+    EVENT_ON_NULL_COUNTS_TAKEN,
+    REFUSED_EVENT_CHANGES_A_COUNT,
+    COUNT_LEFT_BY_A_WRITE,
+    COUNT_OF_A_WRITE_IN_A_BYTE,
+    COUNTS_CLEARED_BY_POWER,
+    WRONG_COUNT_TAKEN,
+    WRONG_COUNT_TAKES_TIME,
+    WRONG_COUNT_MENDED_BY_REFUSAL,
+    WRONG_COUNT_DROPS_THE_CYCLE,
+    WRONG_COUNT_ANSWERS_Q,
+    WRONG_COUNT_REFUSED_AS_POWER,
+    WRONG_COUNT_REFUSED_AT_A_SHORT_WAIT,
+    WRONG_COUNT_REFUSED_AT_THE_RISE_OF_S,
+    WRONG_COUNT_OF_ANOTHER_PAGE_REFUSED,
+    WRONG_COUNT_REFUSED_IN_AN_IDENTIFICATION_CYCLE,
+    WRONG_COUNT_REFUSED_IN_A_STATUS_CYCLE,
+    WRONG_COUNT_REFUSED_IN_A_LOCK_CYCLE,
     LIMIT_ONE_MORE,
     REFUSED_TRACE_DID_ONE,
     REFUSED_TRACE_ANSWERS,
@@ -42,6 +80,9 @@ enum way {
     NULL_TRACE_TAKEN_AS_CUT,
     NULL_ANSWERS_TAKEN,
     NULL_PAGE_JUDGED_BEFORE_NULL_CELLS,
+    TRACE_WITH_NULL_COUNTS_TAKEN,
+    TRACE_TAKES_A_WRONG_COUNT,
+    TRACE_DOES_A_REFUSED_WAIT,
     STATUS_OF_NO_STATE,
     STATUS_WITHOUT_WEL,
     STATUS_OF_NULL,
@@ -100,10 +141,11 @@ static enum way way(void) {
     return (enum way)chosen;
 }
 
-#define BUFFERS state, state_length, cells, cells_length, identification, identification_length, latch, latch_length
-#define TAKEN(constant)                                                                           \
-    constant uint8_t *state, size_t state_length, constant uint8_t *cells, size_t cells_length,   \
-        constant uint8_t *identification, size_t identification_length, constant uint8_t *latch, size_t latch_length
+#define BUFFERS state, state_length, cells, cells_length, identification, identification_length, latch, latch_length, counts, counts_length
+#define TAKEN(constant)                                                                                                \
+    constant uint8_t *state, size_t state_length, constant uint8_t *cells, size_t cells_length,                        \
+        constant uint8_t *identification, size_t identification_length, constant uint8_t *latch, size_t latch_length,  \
+        constant uint16_t *counts, size_t counts_length
 #define WRITTEN TAKEN()
 #define ONLY_READ TAKEN(const)
 #define VIEWED cells, cells_length, identification, identification_length
@@ -113,8 +155,10 @@ size_t __real_m95_version(void);
 size_t __real_m95_cells(size_t device);
 size_t __real_m95_page(size_t device);
 size_t __real_m95_identification(size_t device);
+size_t __real_m95_pages(size_t device);
 size_t __real_m95_refusal(size_t device, ONLY_READ);
 size_t __real_m95_prepare(size_t device, WRITTEN);
+size_t __real_m95_count_pages(size_t device, const uint8_t *cells, size_t cells_length, uint16_t *counts, size_t counts_length);
 size_t __real_m95_load(size_t device, uint8_t *state, size_t state_length, size_t status, size_t lock);
 size_t __real_m95_event(size_t device, WRITTEN, size_t kind, size_t value, size_t *answer);
 size_t __real_m95_run(size_t device, WRITTEN, const uint8_t *trace, size_t trace_length, uint8_t *answers, size_t answers_length, size_t limit,
@@ -149,10 +193,69 @@ size_t __wrap_m95_identification(size_t device) {
     return __real_m95_identification(way() == IDENTIFICATION_OF_A_LARGE_NUMBER ? device & 255 : device);
 }
 
+size_t __wrap_m95_pages(size_t device) {
+    if (way() == PAGES_OF_NO_DEVICE && device == 8) {
+        return 32;
+    }
+    size_t pages = __real_m95_pages(way() == PAGES_OF_A_LARGE_NUMBER ? device & 255 : device);
+    return way() == PAGES_WITH_THE_IDENTIFICATION_PAGE && __real_m95_identification(device) > 0 ? pages + 1 : pages;
+}
+
+/* Whether the buffers themselves are refused by this number. */
+static int is_of_buffers(size_t number) {
+    return (M95_REFUSED_DEVICE <= number && number <= M95_REFUSED_STATE) || number == M95_REFUSED_COUNTS;
+}
+
+/* Where version 1 has the time that is left, Q, and which cycle runs; and the cycles. */
+enum { TIME_AT = 8, Q_AT = 24, CYCLE_AT = 25, ARRAY = 1, IDENTIFICATION = 2, STATUS = 3, LOCK = 4 };
+
+static size_t time_left(const uint8_t *state) {
+    size_t time = 0;
+    for (size_t k = 4; k > 0; k--) {
+        time = time << 8 | state[TIME_AT + k - 1];
+    }
+    return time;
+}
+
+/* Whether the count of any page is wrong, in buffers that are not refused. */
+static int has_wrong_count(size_t device, ONLY_READ) {
+    static uint16_t right[1024];
+    if (__real_m95_refusal(device, BUFFERS) != M95_DONE) {
+        return 0;
+    }
+    __real_m95_count_pages(device, cells, cells_length, right, counts_length);
+    return memcmp(right, counts, counts_length * sizeof *counts) != 0;
+}
+
+/* The number of buffers whose counts are of a wrong number, or say a wrong one, made wrong. */
+static size_t counts_number(size_t device, ONLY_READ, size_t number) {
+    int is_wrong = counts_length != __real_m95_pages(device), is_short = state_length != M95_STATE_BYTES;
+    if (way() == COUNTS_JUDGED_BEFORE_LATCH && number == M95_REFUSED_LATCH && is_wrong) {
+        return M95_REFUSED_COUNTS;
+    }
+    if (way() == COUNTS_JUDGED_AFTER_STATE && number == M95_REFUSED_COUNTS && is_short) {
+        return M95_REFUSED_STATE;
+    }
+    if (way() == NULL_COUNTS_TAKEN && number == M95_REFUSED_COUNTS && counts == NULL) {
+        return M95_DONE;
+    }
+    return way() == WRONG_COUNTS_UNSOUND && has_wrong_count(device, BUFFERS) ? M95_REFUSED_STATE : number;
+}
+
+/* How many counts are taken instead. */
+static size_t counts_for(size_t device, size_t length) {
+    if (way() == COUNTS_LENGTH_IN_BYTES) {
+        return length / sizeof(uint16_t);
+    }
+    int is_longer = way() == LONGER_COUNTS_TAKEN && length > __real_m95_pages(device);
+    return is_longer ? __real_m95_pages(device) : length;
+}
+
 size_t __wrap_m95_refusal(size_t device, ONLY_READ) {
     if (way() == NULL_STATE_TAKEN && state == NULL) {
         return M95_DONE;
     }
+    counts_length = counts_for(device, counts_length);
     size_t number = __real_m95_refusal(way() == LARGE_NUMBER_TAKEN ? device & 255 : device, BUFFERS);
     if (way() == PAGE_JUDGED_BEFORE_CELLS && number == M95_REFUSED_CELLS && identification_length != __real_m95_identification(device)) {
         return M95_REFUSED_IDENTIFICATION;
@@ -166,16 +269,35 @@ size_t __wrap_m95_refusal(size_t device, ONLY_READ) {
     if (way() == STATE_OF_THE_PAGE_TAKEN_WHERE_THERE_IS_NONE && number == M95_REFUSED_STATE && device == 7) {
         return M95_DONE;
     }
-    return way() == NO_STATE_TAKEN && number == M95_REFUSED_STATE ? M95_DONE : number;
+    if (way() == NO_STATE_TAKEN && number == M95_REFUSED_STATE) {
+        return M95_DONE;
+    }
+    return counts_number(device, BUFFERS, number);
+}
+
+/* Prepares with counts of its own where a way takes any number of them, or leaves those that are lent. */
+static size_t prepare_beside_counts(size_t device, WRITTEN) {
+    static uint16_t own[1024];
+    if (way() == COUNTS_LEFT_BY_PREPARING && counts_length == __real_m95_pages(device)) {
+        counts = own;
+    }
+    if (way() == COUNTS_UNJUDGED_IN_PREPARING && counts_length != __real_m95_pages(device)) {
+        counts = own;
+        counts_length = __real_m95_pages(device);
+    }
+    return __real_m95_prepare(device, BUFFERS);
 }
 
 size_t __wrap_m95_prepare(size_t device, WRITTEN) {
     if (way() == PREPARES_WITHOUT_ROOM_FOR_A_STATE && state_length != M95_STATE_BYTES && cells != NULL) {
         memset(cells, 0xFF, cells_length);
     }
-    size_t number = __real_m95_prepare(device, BUFFERS);
-    if (way() == REFUSED_PREPARING_GIVES_NO_STATE && M95_REFUSED_DEVICE <= number && number <= M95_REFUSED_LATCH && state != NULL) {
+    size_t number = prepare_beside_counts(device, BUFFERS);
+    if (way() == REFUSED_PREPARING_GIVES_NO_STATE && is_of_buffers(number) && number != M95_REFUSED_STATE && state != NULL) {
         memset(state, 0, state_length);
+    }
+    if (way() == REFUSED_PREPARING_CLEARS_COUNTS && number != M95_DONE && counts != NULL) {
+        memset(counts, 0, counts_length * sizeof *counts);
     }
     if (way() == REFUSED_PREPARING_CHANGES_CELLS && number == M95_REFUSED_DEVICE && cells != NULL) {
         cells[0] ^= 1;
@@ -186,12 +308,118 @@ size_t __wrap_m95_prepare(size_t device, WRITTEN) {
     return way() == NO_ROOM_FOR_A_STATE_TAKEN && number == M95_REFUSED_STATE ? M95_DONE : number;
 }
 
-size_t __wrap_m95_event(size_t device, WRITTEN, size_t kind, size_t value, size_t *answer) {
+/* Pages counted wrong. */
+static void spoil_counted(size_t device, const uint8_t *cells, size_t cells_length, uint16_t *counts, size_t pages) {
+    const size_t page = __real_m95_page(device);
+    for (size_t k = 0; way() == COUNTS_BLANK_CELLS && k < pages; k++) {
+        counts[k] = (uint16_t)(page - counts[k]);
+    }
+    for (size_t k = 0; way() == COUNTS_WITHOUT_ZEROS && k < cells_length; k++) {
+        counts[k / page] = (uint16_t)(counts[k / page] - (cells[k] == 0));
+    }
+    for (size_t k = 0; way() == COUNTS_IN_A_BYTE && k < pages; k++) {
+        counts[k] &= 255;
+    }
+    if (way() == LAST_PAGE_UNCOUNTED) {
+        counts[pages - 1] = 0;
+    }
+}
+
+size_t __wrap_m95_count_pages(size_t device, const uint8_t *cells, size_t cells_length, uint16_t *counts, size_t counts_length) {
+    size_t pages = __real_m95_pages(device), length = counts_length;
+    if (way() == COUNTS_INTO_A_LONGER_BUFFER && counts_length > pages) {
+        length = pages;
+    }
+    size_t number = __real_m95_count_pages(way() == COUNTS_A_LARGE_NUMBER ? device & 255 : device, cells, cells_length, counts, length);
+    if (number == M95_DONE) {
+        spoil_counted(device, cells, cells_length, counts, pages);
+    }
+    if (way() == REFUSED_COUNTING_CLEARS_COUNTS && number != M95_DONE && counts != NULL) {
+        memset(counts, 0, counts_length * sizeof *counts);
+    }
+    if (way() == COUNTS_JUDGED_BEFORE_CELLS && number == M95_REFUSED_CELLS && counts_length != pages) {
+        return M95_REFUSED_COUNTS;
+    }
+    return way() == COUNTS_INTO_NULL && number == M95_REFUSED_COUNTS && counts == NULL ? M95_DONE : number;
+}
+
+/* Whether a way refuses an event with 15 that does not look at the counts, or not at the one that is wrong. */
+static int is_refused_too(size_t device, WRITTEN, size_t kind, size_t value) {
+    if (way() < WRONG_COUNT_REFUSED_AT_A_SHORT_WAIT || way() > WRONG_COUNT_REFUSED_IN_A_LOCK_CYCLE || !has_wrong_count(device, BUFFERS)) {
+        return 0;
+    }
+    size_t cycle = kind == M95_WAIT ? state[CYCLE_AT] : 0, ended = cycle > 0 && value >= time_left(state) ? cycle : 0;
+    return (way() == WRONG_COUNT_REFUSED_AT_A_SHORT_WAIT && cycle == ARRAY)
+           || (way() == WRONG_COUNT_REFUSED_AT_THE_RISE_OF_S && kind == M95_SET_PIN && value == M95_S + 1)
+           || (way() == WRONG_COUNT_OF_ANOTHER_PAGE_REFUSED && ended == ARRAY)
+           || (way() == WRONG_COUNT_REFUSED_IN_AN_IDENTIFICATION_CYCLE && ended == IDENTIFICATION)
+           || (way() == WRONG_COUNT_REFUSED_IN_A_STATUS_CYCLE && ended == STATUS)
+           || (way() == WRONG_COUNT_REFUSED_IN_A_LOCK_CYCLE && ended == LOCK);
+}
+
+/* An event that was refused with 15, made wrong: its number, and what it leaves. */
+static size_t spoil_refused_count(size_t device, WRITTEN, size_t kind, size_t value, size_t *answer) {
+    if (way() == WRONG_COUNT_TAKES_TIME) {
+        memcpy(state + TIME_AT, (const uint8_t[]){1, 0, 0, 0}, 4);
+    }
+    if (way() == WRONG_COUNT_MENDED_BY_REFUSAL || way() == WRONG_COUNT_TAKEN) {
+        __real_m95_count_pages(device, cells, cells_length, counts, counts_length);
+    }
+    if (way() == WRONG_COUNT_DROPS_THE_CYCLE) {
+        memset(state + TIME_AT, 0, 4);
+        state[CYCLE_AT] = 0;
+    }
+    if (way() == WRONG_COUNT_ANSWERS_Q) {
+        *answer = state[Q_AT];
+    }
+    if (way() == WRONG_COUNT_TAKEN) {
+        return __real_m95_event(device, BUFFERS, kind, value, answer);
+    }
+    return way() == WRONG_COUNT_REFUSED_AS_POWER ? M95_REFUSED_POWER : M95_REFUSED_COUNT;
+}
+
+/* The counts after an event, made wrong by what they were before it. */
+static void spoil_counts(uint16_t *counts, size_t counts_length, const uint16_t *old, size_t kind) {
+    if (way() == COUNT_LEFT_BY_A_WRITE && kind == M95_WAIT) {
+        memcpy(counts, old, counts_length * sizeof *counts);
+    }
+    for (size_t k = 0; way() == COUNT_OF_A_WRITE_IN_A_BYTE && k < counts_length; k++) {
+        counts[k] = counts[k] == old[k] ? old[k] : counts[k] & 255;
+    }
+    if (way() == COUNTS_CLEARED_BY_POWER && kind == M95_POWER_CYCLE) {
+        memset(counts, 0, counts_length * sizeof *counts);
+    }
+}
+
+/* An event with its counts, made wrong. */
+static size_t event_counted(size_t device, WRITTEN, size_t kind, size_t value, size_t *answer) {
+    static uint16_t old[1024];
+    if (is_refused_too(device, BUFFERS, kind, value)) {
+        *answer = M95_Z;
+        return M95_REFUSED_COUNT;
+    }
+    if (counts_length <= sizeof old / sizeof old[0] && counts != NULL) {
+        memcpy(old, counts, counts_length * sizeof *counts);
+    }
     size_t number = __real_m95_event(device, BUFFERS, kind, value, answer);
+    if (number == M95_DONE) {
+        spoil_counts(counts, counts_length, old, kind);
+    }
+    if (way() == EVENT_ON_NULL_COUNTS_TAKEN && number == M95_REFUSED_COUNTS && counts == NULL) {
+        return M95_DONE;
+    }
+    if (way() == REFUSED_EVENT_CHANGES_A_COUNT && number != M95_DONE && counts != NULL) {
+        counts[0] ^= 1;
+    }
+    return number == M95_REFUSED_COUNT ? spoil_refused_count(device, BUFFERS, kind, value, answer) : number;
+}
+
+size_t __wrap_m95_event(size_t device, WRITTEN, size_t kind, size_t value, size_t *answer) {
+    size_t number = event_counted(device, BUFFERS, kind, value, answer);
     if (way() == REFUSED_EVENT_ANSWERS_0 && number != M95_DONE) {
         *answer = 0;
     }
-    if (way() == REFUSED_EVENT_CHANGES_THE_LATCH && number >= M95_REFUSED_KIND) {
+    if (way() == REFUSED_EVENT_CHANGES_THE_LATCH && number != M95_DONE && !is_of_buffers(number)) {
         latch[0] ^= 1;
     }
     if (way() == KIND_REFUSED_AS_PIN && number == M95_REFUSED_KIND) {
@@ -210,10 +438,10 @@ size_t __wrap_m95_run(size_t device, WRITTEN, const uint8_t *trace, size_t trace
                       size_t *taken, size_t *done) {
     size_t most = way() == LIMIT_ONE_MORE ? limit + 1 : limit;
     size_t number = __real_m95_run(device, BUFFERS, trace, trace_length, answers, answers_length, most, taken, done);
-    if (way() == REFUSED_TRACE_DID_ONE && M95_REFUSED_DEVICE <= number && number <= M95_REFUSED_STATE) {
+    if (way() == REFUSED_TRACE_DID_ONE && is_of_buffers(number)) {
         *done = 1;
     }
-    if (way() == REFUSED_TRACE_ANSWERS && M95_REFUSED_DEVICE <= number && number <= M95_REFUSED_STATE && answers_length > 0) {
+    if (way() == REFUSED_TRACE_ANSWERS && is_of_buffers(number) && answers_length > 0) {
         answers[0] = M95_Z;
     }
     if (way() == NULL_TRACE_TAKEN_AS_CUT && trace == NULL) {
@@ -224,6 +452,13 @@ size_t __wrap_m95_run(size_t device, WRITTEN, const uint8_t *trace, size_t trace
     }
     if (way() == NULL_PAGE_JUDGED_BEFORE_NULL_CELLS && cells == NULL && identification == NULL) {
         return M95_REFUSED_IDENTIFICATION;
+    }
+    if (way() == TRACE_WITH_NULL_COUNTS_TAKEN && number == M95_REFUSED_COUNTS && counts == NULL) {
+        return M95_DONE;
+    }
+    *done += way() == TRACE_DOES_A_REFUSED_WAIT && number == M95_REFUSED_COUNT;
+    if (way() == TRACE_TAKES_A_WRONG_COUNT && number == M95_REFUSED_COUNT) {
+        return M95_DONE;
     }
     return way() == SHORT_RECORD_TAKEN && number == M95_REFUSED_CUT ? M95_DONE : number;
 }

@@ -59,7 +59,14 @@ fn run_bench(device: &Device, trace: &[u8]) -> String {
     let cells = &mut cells[..device.cells];
     let mut identification = vec![0; device.identification];
     let mut latch = vec![0; 2 * device.page];
-    let (_, mut state) = prepare(device.number, cells, &mut identification, &mut latch);
+    let mut counts = vec![0; device.pages()];
+    let (_, mut state) = prepare(
+        device.number,
+        cells,
+        &mut identification,
+        &mut latch,
+        &mut counts,
+    );
     let mut answers = [0; BENCH_INPUT / HEAD];
     let ran = run(
         device.number,
@@ -67,6 +74,7 @@ fn run_bench(device: &Device, trace: &[u8]) -> String {
         cells,
         &mut identification,
         &mut latch,
+        &mut counts,
         trace,
         &mut answers,
         usize::MAX,

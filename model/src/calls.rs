@@ -1,6 +1,7 @@
-//! The calls of the library (document 01, "Traces" and "Numbers given back"; document 02, W-201 and W-202). A refused
-//! call leaves what the table of numbers says.
+//! The calls of the library (document 01, "Traces" and "Numbers given back"; document 02, W-201, W-202 and W-204). A
+//! refused call leaves what the table of numbers says.
 
+use crate::count::page_count;
 use crate::device::{device, Device};
 use crate::number::Number;
 use crate::rules::Chip;
@@ -28,20 +29,23 @@ impl Ran {
     }
 }
 
-/// Prepares a device. The latch may hold anything before; it is overwritten.
+/// Prepares a device. Latch and counts may hold anything before; they are overwritten. All cells are blank then, and so
+/// every count is 0.
 pub fn prepare(
     device: u8,
     cells: &mut [u8],
     identification: &mut [u8],
     latch: &mut [u8],
+    counts: &mut [u16],
 ) -> (Number, State) {
-    let row = match judge_lent(device, cells, identification, latch) {
+    let row = match judge_lent(device, cells, identification, latch, counts) {
         Ok(row) => row,
         Err(number) => return (number, State::prepared()),
     };
     cells.fill(0xFF);
     identification.fill(0xFF);
     latch.fill(0);
+    counts.fill(0);
     identification[..row.identification_code.len()].copy_from_slice(row.identification_code);
     (Number::Done, State::prepared())
 }
@@ -72,6 +76,19 @@ pub fn stored(state: &State) -> (u8, u8) {
     (state.status, state.locked.into())
 }
 
+/// Counts each page afresh from its cells, for whoever fills cells otherwise than by preparing and events; without it
+/// the next cycle on such a page could not end. It gives 1, 2, then 14, and changes nothing then.
+pub fn count_pages(number: u8, cells: &[u8], counts: &mut [u16]) -> Number {
+    let row = match judge_cells(number, cells).and_then(|row| judge_counts(row, counts)) {
+        Ok(row) => row,
+        Err(number) => return number,
+    };
+    for (count, page) in counts.iter_mut().zip(cells.chunks_exact(row.page)) {
+        *count = page_count(page);
+    }
+    Number::Done
+}
+
 /// Does one event; a refused one answers Z.
 pub fn event(
     device: u8,
@@ -79,16 +96,17 @@ pub fn event(
     cells: &mut [u8],
     identification: &mut [u8],
     latch: &mut [u8],
+    counts: &mut [u16],
     event: Event,
 ) -> (Number, Output) {
-    let mut chip = match lend(device, state, cells, identification, latch) {
+    let mut chip = match lend(device, state, cells, identification, latch, counts) {
         Ok(chip) => chip,
         Err(number) => return (number, Output::Z),
     };
-    if chip.refuses(event) {
-        return (Number::Power, Output::Z);
+    match chip.try_event(event) {
+        Ok(answer) => (Number::Done, answer),
+        Err(number) => (number, Output::Z),
     }
-    (Number::Done, chip.event(event))
 }
 
 /// Runs at most `limit` records of a trace and writes one answer byte for each.
@@ -99,11 +117,12 @@ pub fn run(
     cells: &mut [u8],
     identification: &mut [u8],
     latch: &mut [u8],
+    counts: &mut [u16],
     trace: &[u8],
     answers: &mut [u8],
     limit: usize,
 ) -> Ran {
-    match lend(device, state, cells, identification, latch) {
+    match lend(device, state, cells, identification, latch, counts) {
         Ok(mut chip) => run_records(&mut chip, trace, answers, limit),
         Err(number) => Ran::refused(number),
     }
@@ -113,9 +132,10 @@ pub fn run(
 pub(crate) fn run_records(chip: &mut Chip, trace: &[u8], answers: &mut [u8], limit: usize) -> Ran {
     let (mut done, mut taken) = (0, 0);
     while done < limit && taken < trace.len() {
-        match judge_record(chip, &trace[taken..], done < answers.len()) {
-            Ok((event, bytes)) => {
-                answers[done] = chip.event(event) as u8;
+        let record = judge_record(&trace[taken..], done < answers.len());
+        match record.and_then(|(event, bytes)| Ok((chip.try_event(event)?, bytes))) {
+            Ok((answer, bytes)) => {
+                answers[done] = answer as u8;
                 done += 1;
                 taken += bytes;
             }
@@ -135,21 +155,15 @@ pub(crate) fn run_records(chip: &mut Chip, trace: &[u8], answers: &mut [u8], lim
     }
 }
 
-/// All that can refuse a record: what `read_record` judges, then 10, then 11.
+/// All that can refuse a record before its event is tried: what `read_record` judges, then 10.
 #[inline(always)]
-pub(crate) fn judge_record(
-    chip: &Chip,
-    bytes: &[u8],
-    has_room: bool,
-) -> Result<(Event, usize), Number> {
+pub(crate) fn judge_record(bytes: &[u8], has_room: bool) -> Result<(Event, usize), Number> {
     let record = read_record(bytes)?;
-    if !has_room {
-        return Err(Number::Answers);
+    if has_room {
+        Ok(record)
+    } else {
+        Err(Number::Answers)
     }
-    if chip.refuses(record.0) {
-        return Err(Number::Power);
-    }
-    Ok(record)
 }
 
 /// The lent buffer that a view shows a page of.
@@ -184,45 +198,61 @@ pub fn view<'a>(
     }
 }
 
-/// Numbers 1 to 3, in their order: what every call that is lent a chip's bytes judges first.
+/// Numbers 1 and 2, in their order: what every call that is lent a chip's bytes judges first.
+fn judge_cells(number: u8, cells: &[u8]) -> Result<&'static Device, Number> {
+    let row = device(number).ok_or(Number::Device)?;
+    if cells.len() != row.cells {
+        return Err(Number::Cells);
+    }
+    Ok(row)
+}
+
+/// Numbers 1 to 3, in their order.
 fn judge_stored(
     number: u8,
     cells: &[u8],
     identification: &[u8],
 ) -> Result<&'static Device, Number> {
-    let row = device(number).ok_or(Number::Device)?;
-    if cells.len() != row.cells {
-        return Err(Number::Cells);
-    }
+    let row = judge_cells(number, cells)?;
     if identification.len() != row.identification {
         return Err(Number::Identification);
     }
     Ok(row)
 }
 
-/// Numbers 1 to 4, in their order.
-fn judge_lent(
+/// Number 14. The counts themselves are not looked at: a wrong one is found where its page is written.
+fn judge_counts(row: &'static Device, counts: &[u16]) -> Result<&'static Device, Number> {
+    if counts.len() != row.pages() {
+        return Err(Number::Counts);
+    }
+    Ok(row)
+}
+
+/// Numbers 1 to 4, then 14, in this order.
+pub(crate) fn judge_lent(
     number: u8,
     cells: &[u8],
     identification: &[u8],
     latch: &[u8],
+    counts: &[u16],
 ) -> Result<&'static Device, Number> {
     let row = judge_stored(number, cells, identification)?;
     if latch.len() != 2 * row.page {
         return Err(Number::Latch);
     }
-    Ok(row)
+    judge_counts(row, counts)
 }
 
-/// Numbers 1 to 5, then the chip that the rules work on.
+/// Numbers 1 to 4, 14 and 5, then the chip that the rules work on. Lengths come before the state.
 pub(crate) fn lend<'a>(
     number: u8,
     state: &'a mut State,
     cells: &'a mut [u8],
     identification: &'a mut [u8],
     latch: &'a mut [u8],
+    counts: &'a mut [u16],
 ) -> Result<Chip<'a>, Number> {
-    let device = judge_lent(number, cells, identification, latch)?;
+    let device = judge_lent(number, cells, identification, latch, counts)?;
     let (data, marks) = latch.split_at_mut(device.page);
     if !is_sound(device, state, marks) {
         return Err(Number::State);
@@ -234,5 +264,6 @@ pub(crate) fn lend<'a>(
         identification,
         data,
         marks,
+        counts,
     })
 }

@@ -27,7 +27,14 @@ impl Contents {
         let mut cells = vec![0; device.cells];
         let mut identification = vec![0; device.identification];
         let mut latch = vec![0; 2 * device.page];
-        let (_, state) = prepare(device.number, &mut cells, &mut identification, &mut latch);
+        let mut counts = vec![0; device.pages()];
+        let (_, state) = prepare(
+            device.number,
+            &mut cells,
+            &mut identification,
+            &mut latch,
+            &mut counts,
+        );
         let (status, lock) = stored(&state);
         Contents {
             cells,
@@ -131,6 +138,8 @@ pub struct Played {
     pub rest_untouched: bool,
     /// The latch at the end, data and marks; a chip's file does not keep it.
     pub latch: Vec<u8>,
+    /// The counts at the end; a chip's file does not keep them either.
+    pub counts: Vec<u16>,
 }
 
 impl Played {
@@ -160,6 +169,7 @@ pub fn play_wrongly(
 ) -> Played {
     let (loaded, mut state) = load(device.number, contents.status, contents.locked.into());
     let mut latch = vec![0; 2 * device.page];
+    let mut counts = mistakes::file_counts(fault, device, &contents.cells);
     let mut answers = vec![UNTOUCHED; room.min(most_records(trace))];
     let ran = match lend(
         device.number,
@@ -167,6 +177,7 @@ pub fn play_wrongly(
         &mut contents.cells,
         &mut contents.identification,
         &mut latch,
+        &mut counts,
     ) {
         Ok(chip) if loaded == Number::Done => run_wrongly(fault, chip, trace, &mut answers, limit),
         Ok(_) => Ran::refused(loaded),
@@ -176,8 +187,7 @@ pub fn play_wrongly(
     if loaded == Number::Done {
         contents.keep(stored_wrongly(fault, &state));
     }
-    let rest = &answers[ran.done..];
-    let rest_untouched = rest.iter().all(|&byte| byte == UNTOUCHED);
+    let rest_untouched = answers[ran.done..].iter().all(|&byte| byte == UNTOUCHED);
     answers.truncate(ran.done);
     Played {
         ran,
@@ -185,6 +195,7 @@ pub fn play_wrongly(
         answers,
         rest_untouched,
         latch,
+        counts,
     }
 }
 

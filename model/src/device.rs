@@ -125,6 +125,11 @@ pub fn device(number: u8) -> Option<&'static Device> {
 }
 
 impl Device {
+    /// Pages of cells, each with a count of its own (document 02, W-204).
+    pub fn pages(&self) -> usize {
+        self.cells / self.page
+    }
+
     /// The status bits that this device stores.
     pub fn status_bits(&self) -> u8 {
         if self.has_srwd {

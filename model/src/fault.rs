@@ -1,5 +1,5 @@
 //! Named ways to be wrong. `mistakes` makes them; `sharpness` uses them to show that the generated traces, or else the
-//! inputs of the bench program or the chosen views, states and loads, would notice each one.
+//! inputs of the bench program or the chosen views, states, loads, wrong counts and lent lengths, would notice each one.
 
 /// Declares the enum, the list of all faults and their meanings from one table.
 macro_rules! faults {
@@ -15,9 +15,11 @@ macro_rules! faults {
             /// Every mistake, in the order of document 01's headings; those that a request brought are in its order.
             pub const ALL: &'static [Fault] = &[$(Fault::$name,)*];
 
-            /// Whether the mistake is that of a device on a trace.
+            /// Whether the mistake is that of a device on a trace, from counts that agree with the cells.
             pub fn is_of_trace(self) -> bool {
-                !(self.is_of_bench() || self.is_of_view() || self.is_of_state() || self.is_of_load())
+                let of_calls = self.is_of_view() || self.is_of_state() || self.is_of_load();
+                let of_counts = self.is_of_wrong_count() || self.is_of_lent();
+                !(self.is_of_bench() || of_calls || of_counts)
             }
 
             /// Whether the mistake is the bench program's and not the library's.
@@ -38,6 +40,21 @@ macro_rules! faults {
             /// Whether the mistake is that of `load`, which comes before a trace.
             pub fn is_of_load(self) -> bool {
                 self.starts_with("Load")
+            }
+
+            /// Whether the mistake is one about counts, whatever shows it.
+            pub fn is_of_count(self) -> bool {
+                self.starts_with("Count")
+            }
+
+            /// Whether the mistake is that of a count that is wrong before, which no trace makes so.
+            pub fn is_of_wrong_count(self) -> bool {
+                self.starts_with("CountWrong")
+            }
+
+            /// Whether the mistake is that of judging the lent counts, or of preparing them, which comes before a trace.
+            pub fn is_of_lent(self) -> bool {
+                self.starts_with("Counts")
             }
 
             fn starts_with(self, word: &str) -> bool {
@@ -327,6 +344,38 @@ faults! {
     ProtectionOneAddressMore = "WRITE is not done if it leaves the address just before the upper quarter or half",
     ProtectionOneAddressLess = "WRITE is done if it leaves the address at the first protected one",
     ProtectionFirstAddressOpen = "WRITE is done if it is sent to the first protected address",
+    // Counts: how a page is counted, and when its count is set.
+    CountInByte = "a count is kept in a byte, so that a full page of 256 counts 0",
+    CountOfBlankCells = "a count is the number of cells that are FFh",
+    CountSkipsZero = "00h is as blank as FFh for a count",
+    CountTestedAfterChange = "the count is tested against the cells after the change",
+    CountLeftAtCycleEnd = "the end of an array cycle leaves the count",
+    CountAddsMarkedBytes = "the new count is the old one and the number of marked bytes",
+    CountSetAtSelectRise = "the count is set when S rises",
+    CountSetByIdentificationCycle = "the end of an identification cycle sets the count of page 0",
+    CountClearedByPower = "power sets all counts to 0",
+    CountOfFileIsBlank = "a chip's file is played with counts of 0, whatever its cells",
+    // Counts: one that is wrong before.
+    CountWrongNotRefused = "a wrong count is set right without a refusal",
+    CountWrongOnlyAbove256 = "only a count above 256 is wrong",
+    CountWrongRefusedAtSelectRise = "a wrong count refuses the rise of S that starts an array cycle",
+    CountWrongRefusedAtEveryWait = "a wrong count refuses every wait in an array cycle",
+    CountWrongRefusedForAnyPage = "a wrong count of any page refuses the end of an array cycle",
+    CountWrongRefusedInIdentification = "a wrong count of page 0 refuses the end of an identification cycle",
+    CountWrongRefusedInStatus = "a wrong count of the page written before refuses the end of a status cycle",
+    CountWrongRefusedInLock = "a wrong count of the page written before refuses the end of a lock cycle",
+    CountWrongTakesTime = "a wait refused for a wrong count takes its time all the same",
+    CountWrongMendedByRefusal = "a wait refused for a wrong count sets it right",
+    CountWrongDropsCycle = "a wait refused for a wrong count ends the cycle without its change",
+    CountWrongAnswersQ = "a wait refused for a wrong count answers Q",
+    CountWrongIsUnsound = "a wrong count gives 5",
+    // Counts: the lent buffer, and preparing.
+    CountsJudgedAfterState = "14 comes after 5",
+    CountsJudgedBeforeLatch = "14 comes before 4",
+    CountsNotJudgedInPreparing = "preparing takes a counts buffer of any length",
+    CountsLongerTaken = "a counts buffer that is too long is taken",
+    CountsHaveIdentification = "an identification page has a count of its own",
+    CountsLeftByPreparing = "preparing leaves the counts",
     // A view of a page.
     ViewUnaskedUnchecked = "a view does not judge the slice that was not asked for",
     ViewThreeBeforeTwo = "3 comes before 2 in a view",

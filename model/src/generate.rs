@@ -5,9 +5,11 @@
 //! running cycle), disturb that one command at one moment, and look at what came of it, so that traces get past the
 //! first bits of a selection.
 //!
-//! What no trace asks for, the bench program, a view, a state or a load to judge, has inputs of its own here.
+//! What no trace asks for, the bench program, a view, a state or a load to judge, counts that are wrong or of a wrong
+//! length, has inputs of its own here.
 
 mod commands;
+mod counts;
 mod disturb;
 mod inputs;
 mod made;
@@ -20,6 +22,7 @@ mod views;
 use crate::device::Device;
 use crate::trace::{append_record, Event};
 use commands::Maker;
+pub use counts::{counts, lendings, Counting, Left, Lending};
 pub use inputs::{bench_input, odd_bench_input, ODD_BENCH_INPUTS};
 pub use made::{made_events, sheet_events};
 pub use malformed::{tail, TAILS};

@@ -6,6 +6,7 @@
 
 mod bench;
 mod codes;
+mod counts;
 mod edges;
 mod judging;
 mod records;
@@ -18,10 +19,13 @@ mod view;
 use crate::calls::{run_records, stored, Ran};
 use crate::device::{Device, IDENTIFICATION_CODE};
 use crate::fault::Fault;
+use crate::number::Number;
 use crate::rules::Chip;
 use crate::state::{status_byte, Cycle, Output, State};
 use crate::trace::Event;
 pub use bench::bench_wrongly;
+pub(crate) use counts::file_counts;
+pub use counts::{event_wrongly, prepare_wrongly};
 use smaller::Believed;
 pub use state::{is_sound_wrongly, load_wrongly};
 pub use view::view_wrongly;
@@ -100,6 +104,8 @@ struct Mistaken<'a> {
     /// The latch before the event, where a mistake puts it back.
     data_before: Vec<u8>,
     marks_before: Vec<u8>,
+    /// The count of the cycle's page before a wait.
+    count_before: u16,
 }
 
 /// What an event is for the selection.
@@ -135,6 +141,17 @@ impl<'a> Mistaken<'a> {
             address_sent: 0,
             data_before: Vec::new(),
             marks_before: Vec::new(),
+            count_before: 0,
+        }
+    }
+
+    fn try_event(&mut self, event: Event) -> Result<Output, Number> {
+        match self.refusal(event) {
+            Some(number) => {
+                self.after_refusal(event);
+                Err(number)
+            }
+            None => Ok(self.event(event)),
         }
     }
 

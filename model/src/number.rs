@@ -1,4 +1,4 @@
-//! The numbers given back (document 01, "Numbers given back").
+//! The numbers given back (document 01, "Numbers given back"; document 02, W-204).
 
 /// Why a call ended; `as u8` is the number of the table, 0 where the call did all it was asked for.
 #[derive(Clone, Copy, Debug, PartialEq, Eq)]
@@ -18,4 +18,6 @@ pub enum Number {
     Power = 11,
     Input = 12,
     Address = 13,
+    Counts = 14,
+    Miscounted = 15,
 }

@@ -1,6 +1,8 @@
-//! The rules: what each event does to a device (document 01, "Events" and "Instructions").
+//! The rules: what each event does to a device (document 01, "Events" and "Instructions"; document 02, W-204).
 
+use crate::count::page_count;
 use crate::device::{Device, BP, SRWD};
+use crate::number::Number;
 use crate::state::{status_byte, Cycle, Instruction, Output, State, MOST_WHOLE_BYTES};
 use crate::trace::Event;
 
@@ -13,15 +15,48 @@ pub(crate) struct Chip<'a> {
     /// The write latch: a page of data and a page of marks.
     pub data: &'a mut [u8],
     pub marks: &'a mut [u8],
+    /// How full each page of cells is.
+    pub counts: &'a mut [u16],
 }
 
 // Events.
 impl Chip<'_> {
-    /// Whether `event` is refused with number 11: power during a cycle, of whatever kind. Nobody could say what a
-    /// cycle cut short leaves.
+    /// What refuses `event`, by what is there before it, so that nothing has to be taken back: 11 for power during a
+    /// cycle, of whatever kind, since nobody could say what a cycle cut short leaves; 15 for the wait that would end an
+    /// array cycle on a page whose count is wrong.
     #[inline(always)]
-    pub fn refuses(&self, event: Event) -> bool {
-        event == Event::Power && self.state.in_cycle()
+    pub fn refusal(&self, event: Event) -> Option<Number> {
+        match event {
+            Event::Power if self.state.in_cycle() => Some(Number::Power),
+            Event::Wait(microseconds) if self.ends_miscounted(microseconds) => {
+                Some(Number::Miscounted)
+            }
+            _ => None,
+        }
+    }
+
+    /// Whether a wait ends an array cycle whose page has a wrong count. No other event looks at a count. Most records
+    /// are no waits, so it stands outside their loop.
+    #[inline(never)]
+    fn ends_miscounted(&self, microseconds: u32) -> bool {
+        let state = &*self.state;
+        let ends = state.cycle == Cycle::Array && microseconds >= state.time_left;
+        ends && !self.is_counted()
+    }
+
+    /// Whether the count of the running cycle's page is the number of its cells other than FFh.
+    fn is_counted(&self) -> bool {
+        let (start, page) = (self.state.page_start, self.device.page);
+        self.counts[start / page] == page_count(&self.cells[start..start + page])
+    }
+
+    /// Does one event and gives the answer, or the number that refuses it.
+    #[inline(always)]
+    pub fn try_event(&mut self, event: Event) -> Result<Output, Number> {
+        match self.refusal(event) {
+            Some(number) => Err(number),
+            None => Ok(self.event(event)),
+        }
     }
 
     /// Does one event that is not refused and gives the answer.
@@ -138,6 +173,7 @@ impl Chip<'_> {
             Cycle::Array => {
                 let page = &mut self.cells[start..start + self.device.page];
                 write_page(page, self.data, self.marks);
+                self.counts[start / self.device.page] = page_count(page);
             }
             Cycle::Identification => write_page(self.identification, self.data, self.marks),
             Cycle::Status => self.state.status = self.state.new_status,
@@ -153,7 +189,7 @@ impl Chip<'_> {
 }
 
 /// Puts the marked latch bytes in their places.
-fn write_page(page: &mut [u8], data: &[u8], marks: &[u8]) {
+pub(crate) fn write_page(page: &mut [u8], data: &[u8], marks: &[u8]) {
     for ((place, &byte), &mark) in page.iter_mut().zip(data).zip(marks) {
         if mark == 1 {
             *place = byte;

@@ -133,7 +133,12 @@ fn a_wrong_line_is_found() {
 #[test]
 fn a_named_fault_is_found() {
     let directory = directory("fault");
-    for fault in ["PageRollsIntoNext", "HoldShowsOutput", "WriteTimeOneLong"] {
+    for fault in [
+        "PageRollsIntoNext",
+        "HoldShowsOutput",
+        "WriteTimeOneLong",
+        "CountOfFileIsBlank",
+    ] {
         let play = format!("{} {fault}", env!("CARGO_BIN_EXE_wrong_play"));
         let output = Command::new(env!("CARGO_BIN_EXE_compare"))
             .args(["--play", &play, "--seed", "3", "--keep"])

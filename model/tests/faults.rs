@@ -4,12 +4,14 @@ mod common;
 
 use std::process::Command;
 
-use common::write_at;
-use m95_model::generate::{loads, states, trace, view_bytes, views, Profile, View};
+use common::{write_at, Board};
+use m95_model::generate::{
+    lendings, loads, states, trace, view_bytes, views, Lending, Profile, View,
+};
 use m95_model::{
-    append_record, is_sound, is_sound_wrongly, load, load_wrongly, play, play_wrongly, view,
-    view_wrongly, Contents, Cycle, Device, Event, Fault, Instruction, Number, Region, Vector,
-    DEVICES,
+    append_record, event_wrongly, is_sound, is_sound_wrongly, load, load_wrongly, play,
+    play_wrongly, view, view_wrongly, Contents, Cycle, Device, Event, Fault, Instruction, Number,
+    Output, Region, Vector, DEVICES,
 };
 
 /// A fault whose place the trace never reaches must change nothing: the mistakes stand around the right model.
@@ -213,7 +215,7 @@ fn a_load_is_wrong_at_the_place_of_its_fault_and_nowhere_else() {
 }
 
 /// `play` asks for no view and is not the bench program, so a fault of theirs would never be found in it; nor would one
-/// of the states and loads that it never has.
+/// of the states, loads, wrong counts and lengths that it never has.
 #[test]
 fn wrong_play_has_the_faults_of_traces_alone() {
     let output = Command::new(env!("CARGO_BIN_EXE_wrong_play"))
@@ -224,7 +226,7 @@ fn wrong_play_has_the_faults_of_traces_alone() {
     let listed: Vec<&str> = text.lines().collect();
     for fault in Fault::ALL {
         let name = format!("{fault:?}");
-        let others = ["Bench", "View", "State", "Load"];
+        let others = ["Bench", "View", "State", "Load", "CountWrong", "Counts"];
         let of_traces = !others.iter().any(|other| name.starts_with(other));
         assert_eq!(listed.contains(&name.as_str()), of_traces, "{name}");
     }
@@ -328,5 +330,342 @@ fn a_view_without_a_fault_is_the_right_one() {
         // Of which bytes an empty part is, nobody says.
         let is_lent = right.1.is_empty() || std::ptr::eq(right.1, same.1);
         assert!(is_lent, "{asked:?}");
+    }
+}
+
+/// The faults about counts of one sort.
+fn faults_of_counts(sort: impl Fn(Fault) -> bool) -> Vec<Fault> {
+    let all = Fault::ALL.iter().copied();
+    all.filter(|fault| fault.is_of_count() && sort(*fault))
+        .collect()
+}
+
+/// WRITE of these bytes to the first page.
+fn write_of(row: &Device, data: &[u8]) -> Vec<u8> {
+    let mut bytes = write_at(row, 0);
+    bytes.pop();
+    [&bytes, data].concat()
+}
+
+/// A trace of WREN and this command, then a full wait.
+fn written(row: &Device, bytes: &[u8]) -> Vec<u8> {
+    let mut trace = Vec::new();
+    send(&mut trace, &[0x06]);
+    send(&mut trace, bytes);
+    append_record(&mut trace, Event::Wait(row.write_time));
+    trace
+}
+
+/// The command that starts a cycle, where the device has it.
+fn starting(row: &Device, cycle: Cycle) -> Option<Vec<u8>> {
+    let address = match cycle {
+        Cycle::Array => return Some(write_of(row, &[0x5A])),
+        Cycle::Status => return Some(vec![0x01, 0x04]),
+        _ if !row.has_identification() => return None,
+        Cycle::Lock => row.lock_bit(),
+        _ => 0,
+    };
+    let places = (0..row.address_bytes).rev();
+    let address = places.map(|place| (address >> (8 * place)) as u8);
+    Some([0x82].into_iter().chain(address).chain([0x02]).collect())
+}
+
+/// Traces from a prepared chip with the faults of counts that each must show, and no others.
+fn traces_of_counts(row: &Device) -> Vec<(Vec<u8>, Vec<Fault>)> {
+    let changed = vec![
+        Fault::CountOfBlankCells,
+        Fault::CountTestedAfterChange,
+        Fault::CountLeftAtCycleEnd,
+    ];
+    let with = |other| [changed.clone(), vec![other]].concat();
+    let byte = written(row, &write_of(row, &[0x5A]));
+    let mut power = byte.clone();
+    append_record(&mut power, Event::Power);
+    let mut in_cycle = byte.clone();
+    in_cycle.truncate(byte.len() - 8);
+    let blank = vec![Fault::CountOfBlankCells, Fault::CountAddsMarkedBytes];
+    let full = match row.page {
+        256 => with(Fault::CountInByte),
+        _ => changed.clone(),
+    };
+    let mut traces = vec![
+        (
+            [byte.clone(), byte.clone()].concat(),
+            with(Fault::CountAddsMarkedBytes),
+        ),
+        (byte, changed.clone()),
+        (in_cycle, vec![Fault::CountSetAtSelectRise]),
+        (
+            written(row, &write_of(row, &[0x00])),
+            with(Fault::CountSkipsZero),
+        ),
+        (written(row, &write_of(row, &[0xFF])), blank),
+        (written(row, &write_of(row, &vec![0x5A; row.page])), full),
+        (power, with(Fault::CountClearedByPower)),
+        (written(row, &[0x01, 0x04]), vec![]),
+    ];
+    if let Some(bytes) = starting(row, Cycle::Identification) {
+        let expected = vec![Fault::CountSetByIdentificationCycle];
+        traces.push((written(row, &bytes), expected));
+    }
+    traces
+}
+
+#[test]
+fn a_count_is_wrong_in_the_traces_of_its_fault_and_no_others() {
+    let faults = faults_of_counts(Fault::is_of_trace);
+    let mut noticed = Vec::new();
+    for row in &DEVICES {
+        let blank = Contents::prepared(row);
+        let mut filled = Contents::prepared(row);
+        filled.cells[row.cells - 1] = 0x00;
+        // A chip that is not blank needs no write to show what its counts start as.
+        let of_file = (&filled, vec![], vec![Fault::CountOfFileIsBlank]);
+        let from_blank = traces_of_counts(row).into_iter();
+        let cases = from_blank.map(|(trace, shown)| (&blank, trace, shown));
+        for (start, trace, expected) in cases.chain([of_file]) {
+            let all = usize::MAX;
+            let (mut first, mut second) = (start.clone(), start.clone());
+            let right = play(row, &mut first, &trace);
+            for &fault in &faults {
+                second.clone_from(start);
+                let wrong = play_wrongly(fault, row, &mut second, &trace, all, all);
+                let differs = (&right, &first) != (&wrong, &second);
+                let place = format!("{fault:?} {} {} bytes", row.name, trace.len());
+                assert_eq!(differs, expected.contains(&fault), "{place}");
+                noticed.extend(differs.then_some(fault));
+            }
+        }
+    }
+    assert!(faults.iter().all(|fault| noticed.contains(fault)));
+}
+
+/// How the counts are wrong: not at all, those of the page that a cycle is on by one or by more than a page has, or
+/// that of another page.
+#[derive(Clone, Copy, Debug, PartialEq, Eq)]
+enum Wrong {
+    Nowhere,
+    ByOne,
+    Above256,
+    Elsewhere,
+}
+
+/// The events that matter to a cycle.
+#[derive(Clone, Copy, Debug, PartialEq, Eq)]
+enum Step {
+    SelectRise,
+    ShortWait,
+    EndingWait,
+    Other,
+}
+
+/// Whether the fault of a wrong count must differ there; everywhere else it must not.
+fn is_place_of_count(fault: Fault, cycle: Cycle, wrong: Wrong, step: Step) -> bool {
+    let here = matches!(wrong, Wrong::ByOne | Wrong::Above256);
+    let ends = step == Step::EndingWait;
+    let refused = cycle == Cycle::Array && here && ends;
+    match fault {
+        Fault::CountWrongOnlyAbove256 => refused && wrong == Wrong::ByOne,
+        Fault::CountWrongRefusedAtSelectRise => {
+            cycle == Cycle::Array && here && step == Step::SelectRise
+        }
+        Fault::CountWrongRefusedAtEveryWait => {
+            cycle == Cycle::Array && here && step == Step::ShortWait
+        }
+        Fault::CountWrongRefusedForAnyPage => {
+            cycle == Cycle::Array && wrong == Wrong::Elsewhere && ends
+        }
+        Fault::CountWrongRefusedInIdentification => cycle == Cycle::Identification && here && ends,
+        Fault::CountWrongRefusedInStatus => cycle == Cycle::Status && here && ends,
+        Fault::CountWrongRefusedInLock => cycle == Cycle::Lock && here && ends,
+        Fault::CountWrongNotRefused
+        | Fault::CountWrongTakesTime
+        | Fault::CountWrongMendedByRefusal
+        | Fault::CountWrongDropsCycle
+        | Fault::CountWrongAnswersQ => refused,
+        Fault::CountWrongIsUnsound => wrong != Wrong::Nowhere,
+        _ => false,
+    }
+}
+
+/// A board with WEL set and the command sent but for the rise of S, its counts wrong as asked for.
+fn about_to_write(row: &Device, bytes: &[u8], wrong: Wrong) -> Board {
+    let mut board = Board::new(row.number);
+    board.command(&[0x06]);
+    board.select();
+    board.bytes(bytes);
+    match wrong {
+        Wrong::Nowhere => {}
+        Wrong::ByOne => board.counts[0] = 1,
+        Wrong::Above256 => board.counts[0] = 257,
+        Wrong::Elsewhere => board.counts[row.pages() - 1] = 1,
+    }
+    board
+}
+
+/// The steps of a cycle to its last microsecond, RDSR sent meanwhile so that Q is not Z, then the wait that ends it,
+/// twice.
+fn steps(row: &Device) -> Vec<(Step, Event)> {
+    let mut steps = vec![
+        (Step::SelectRise, Event::Select(true)),
+        (Step::ShortWait, Event::Wait(0)),
+        (Step::ShortWait, Event::Wait(row.write_time - 1)),
+        (Step::Other, Event::Power),
+        (Step::Other, Event::Select(false)),
+    ];
+    for level in [false, false, false, false, false, true, false, true] {
+        let bit = [Event::Data(level), Event::Clock(true), Event::Clock(false)];
+        steps.extend(bit.map(|event| (Step::Other, event)));
+    }
+    steps.extend([(Step::EndingWait, Event::Wait(1)); 2]);
+    steps
+}
+
+/// What the board gives with a fault, and what it has then.
+fn tried(board: &Board, fault: Fault, event: Event) -> (Number, Output, String) {
+    let mut state = board.state.clone();
+    let (mut cells, mut identification) = (board.cells.clone(), board.identification.clone());
+    let (mut latch, mut counts) = (board.latch.clone(), board.counts.clone());
+    let (number, answer) = event_wrongly(
+        fault,
+        board.device.number,
+        &mut state,
+        &mut cells,
+        &mut identification,
+        &mut latch,
+        &mut counts,
+        event,
+    );
+    // Only the first page is ever written.
+    let page = &cells[..board.device.page];
+    let left = format!("{state:?} {page:?} {identification:?} {latch:?} {counts:?}");
+    (number, answer, left)
+}
+
+/// Runs one cycle and gives each fault that differs from the right model in one of its steps.
+fn noticed_in(row: &Device, cycle: Cycle, wrong: Wrong, faults: &[Fault]) -> Vec<Fault> {
+    let Some(bytes) = starting(row, cycle) else {
+        return Vec::new();
+    };
+    let mut board = about_to_write(row, &bytes, wrong);
+    let mut noticed = Vec::new();
+    let mut is_over = false;
+    for (step, event) in steps(row) {
+        let right = tried(&board, Fault::None, event);
+        for &fault in faults {
+            let differs = tried(&board, fault, event) != right;
+            // Once the cycle has ended a wait has nothing to refuse.
+            let unsound = fault == Fault::CountWrongIsUnsound;
+            let place = is_place_of_count(fault, cycle, wrong, step) && (!is_over || unsound);
+            let asked = format!("{fault:?} {} {cycle:?} {wrong:?} {event:?}", row.name);
+            assert_eq!(differs, place, "{asked}");
+            noticed.extend(differs.then_some(fault));
+        }
+        let (number, answer) = board.try_set(event);
+        assert_eq!((number, answer), (right.0, right.1));
+        is_over = step == Step::EndingWait && number == Number::Done;
+    }
+    noticed
+}
+
+#[test]
+fn a_wrong_count_is_met_at_the_place_of_its_fault_and_nowhere_else() {
+    let faults = faults_of_counts(|fault| !fault.is_of_trace());
+    let cycles = [
+        Cycle::Array,
+        Cycle::Identification,
+        Cycle::Status,
+        Cycle::Lock,
+    ];
+    let mut noticed = Vec::new();
+    for row in &DEVICES {
+        for cycle in cycles {
+            for wrong in [
+                Wrong::Nowhere,
+                Wrong::ByOne,
+                Wrong::Above256,
+                Wrong::Elsewhere,
+            ] {
+                // A judgement of lengths finds nothing here but for one that wants another count.
+                let others = faults.iter().copied();
+                let tried: Vec<Fault> = others
+                    .filter(|fault| *fault != Fault::CountsHaveIdentification)
+                    .collect();
+                noticed.extend(noticed_in(row, cycle, wrong, &tried));
+            }
+        }
+    }
+    for fault in faults {
+        let expected = fault.is_of_wrong_count();
+        assert_eq!(noticed.contains(&fault), expected, "{fault:?}");
+    }
+}
+
+/// Where preparing and an event must differ that are lent these lengths.
+fn are_places_of_lending(fault: Fault, row: &Device, lending: &Lending) -> [bool; 2] {
+    let stored = lending.cells == row.cells && lending.identification == row.identification;
+    let known = lending.device == row.number && stored;
+    let latch = lending.latch == 2 * row.page;
+    let (pages, lent) = (row.pages(), lending.counts);
+    let wrong = known && latch && lent != pages;
+    match fault {
+        Fault::CountsJudgedAfterState => [false, wrong && !lending.is_sound],
+        Fault::CountsJudgedBeforeLatch => [known && !latch && lent != pages; 2],
+        Fault::CountsNotJudgedInPreparing => [wrong, false],
+        Fault::CountsLongerTaken => [wrong && lent > pages; 2],
+        Fault::CountsHaveIdentification => {
+            [known && latch && row.has_identification() && [pages, pages + 1].contains(&lent); 2]
+        }
+        Fault::CountsLeftByPreparing => [known && latch && lent == pages, false],
+        // The bytes lent are no FFh and the counts those of nothing.
+        Fault::CountWrongIsUnsound => {
+            let judged = known && latch && lent == pages;
+            [false, judged && lending.is_sound]
+        }
+        _ => [false; 2],
+    }
+}
+
+#[test]
+fn lent_counts_are_judged_wrongly_at_the_place_of_their_fault_and_nowhere_else() {
+    let faults = faults_of_counts(|_| true);
+    for row in &DEVICES {
+        let mut noticed = Vec::new();
+        for lending in lendings(row) {
+            let right = [lending.prepare(Fault::None), lending.event(Fault::None)];
+            for &fault in &faults {
+                let wrong = [lending.prepare(fault), lending.event(fault)];
+                let differs = [right[0] != wrong[0], right[1] != wrong[1]];
+                let places = are_places_of_lending(fault, row, &lending);
+                assert_eq!(differs, places, "{fault:?} {lending:?}");
+                noticed.extend(differs.contains(&true).then_some(fault));
+            }
+        }
+        for fault in faults.iter().copied().filter(|fault| fault.is_of_lent()) {
+            let with_page = fault == Fault::CountsHaveIdentification;
+            let expected = !with_page || row.has_identification();
+            assert_eq!(noticed.contains(&fault), expected, "{fault:?} {}", row.name);
+        }
+    }
+}
+
+/// Without a fault the mistaken calls are the right ones.
+#[test]
+fn counts_without_a_fault_are_the_right_ones() {
+    for row in &DEVICES {
+        for wrong in [
+            Wrong::Nowhere,
+            Wrong::ByOne,
+            Wrong::Above256,
+            Wrong::Elsewhere,
+        ] {
+            let mut board = about_to_write(row, &write_of(row, &[0x5A]), wrong);
+            for (_, event) in steps(row) {
+                let (number, answer, left) = tried(&board, Fault::None, event);
+                assert_eq!(board.try_set(event), (number, answer), "{event:?}");
+                let same = tried(&board, Fault::None, Event::Wait(0));
+                assert_eq!(same.2, left, "{event:?}");
+            }
+        }
     }
 }

@@ -1,9 +1,12 @@
-//! Generated traces of all profiles and devices: states stay sound, and broken selections leave nothing behind.
+//! Generated traces of all profiles and devices: states stay sound, and broken selections leave nothing behind, whether
+//! the counts agree with the cells or not.
 
 mod common;
 
 use common::Board;
-use m95_model::generate::{events, records_of, tail, trace, Profile, Random, INSTRUCTIONS, TAILS};
+use m95_model::generate::{
+    counts, events, records_of, tail, trace, Counting, Profile, Random, INSTRUCTIONS, TAILS,
+};
 use m95_model::{
     is_sound, play, status_byte, Contents, Cycle, Device, Event, Number, Output, State, DEVICES,
 };
@@ -11,10 +14,11 @@ use m95_model::{
 const RECORDS: usize = 12_000;
 
 /// What the outside can ever learn of a board, apart from answers.
-fn visible(board: &Board) -> (&[u8], &[u8], u8, bool, u8) {
+fn visible(board: &Board) -> (&[u8], &[u8], &[u16], u8, bool, u8) {
     (
         &board.cells,
         &board.identification,
+        &board.counts,
         board.state.status,
         board.state.locked,
         status_byte(&board.state),
@@ -56,8 +60,7 @@ struct Selection {
 }
 
 /// The selections of a trace, found by watching the device itself: only it knows which rises were decoded.
-fn selections(device: &'static Device, events: &[Event]) -> Vec<Selection> {
-    let mut board = Board::new(device.number);
+fn selections(mut board: Board, events: &[Event]) -> Vec<Selection> {
     let mut found = Vec::new();
     let mut open: Option<Selection> = None;
     for (index, &happening) in events.iter().enumerate() {
@@ -101,33 +104,70 @@ fn broken_selections_leave_nothing_behind() {
     let mut taken_out = 0;
     for ((profile, device), seed) in all_traces() {
         let events = events(profile, device, seed, RECORDS);
-        let mut removed = vec![false; events.len()];
-        let mut inside = vec![false; events.len()];
-        for broken in selections(device, &events)
-            .iter()
-            .filter(|one| is_broken(one))
-        {
-            removed[broken.first] = true;
-            removed[broken.last] = true;
-            inside[broken.first..=broken.last].fill(true);
-            taken_out += 1;
-        }
-        compare_without(profile, device, &events, &removed, &inside);
+        taken_out += take_out_broken(profile, || Board::new(device.number), &events).0;
     }
     assert!(taken_out > 1000, "only {taken_out} broken selections");
 }
 
+/// 204.8: agreeing counts are not needed for it. A cycle on a page with a wrong count goes on in both runs, and the
+/// same waits are refused in both.
+#[test]
+fn broken_selections_leave_nothing_behind_with_wrong_counts() {
+    let (mut taken_out, mut refused) = (0, 0);
+    for ((profile, device), seed) in all_traces() {
+        let events = events(profile, device, seed, RECORDS);
+        for counting in [Counting::OneMore, Counting::AllWrong] {
+            let start = || {
+                let mut board = Board::new(device.number);
+                let mut random = Random::new(seed);
+                board.counts = counts(counting, device, &board.state, &board.cells, &mut random);
+                board
+            };
+            let (selections, waits) = take_out_broken(profile, start, &events);
+            taken_out += selections;
+            refused += waits;
+        }
+    }
+    assert!(taken_out > 1000, "only {taken_out} broken selections");
+    assert!(refused > 500, "only {refused} waits refused with 15");
+}
+
+/// Gives the number of broken selections, and of events refused with 15.
+fn take_out_broken(
+    profile: Profile,
+    start: impl Fn() -> Board,
+    events: &[Event],
+) -> (usize, usize) {
+    let mut removed = vec![false; events.len()];
+    let mut inside = vec![false; events.len()];
+    let mut taken_out = 0;
+    for broken in selections(start(), events)
+        .iter()
+        .filter(|one| is_broken(one))
+    {
+        removed[broken.first] = true;
+        removed[broken.last] = true;
+        inside[broken.first..=broken.last].fill(true);
+        taken_out += 1;
+    }
+    let refused = compare_without(profile, start(), start(), events, &removed, &inside);
+    (taken_out, refused)
+}
+
+/// Gives the number of events refused with 15.
 fn compare_without(
     profile: Profile,
-    device: &'static Device,
+    mut whole: Board,
+    mut without: Board,
     events: &[Event],
     removed: &[bool],
     inside: &[bool],
-) {
-    let mut whole = Board::new(device.number);
-    let mut without = Board::new(device.number);
+) -> usize {
+    let device = whole.device;
+    let mut refused = 0;
     for (index, &happening) in events.iter().enumerate() {
         let given = whole.try_set(happening);
+        refused += usize::from(given.0 == Number::Miscounted);
         let given_without = if removed[index] {
             given
         } else {
@@ -143,6 +183,7 @@ fn compare_without(
         }
     }
     assert_eq!(visible(&whole), visible(&without), "{profile:?} at the end");
+    refused
 }
 
 /// The same, but each broken selection that moves no other pin and takes no time is taken out whole.
@@ -153,7 +194,8 @@ fn broken_selections_can_be_taken_out_whole() {
         let all = events(profile, device, seed, RECORDS);
         let levels = levels(device, &all);
         let mut kept = vec![true; all.len()];
-        for broken in selections(device, &all).iter().filter(|one| is_broken(one)) {
+        let selections = selections(Board::new(device.number), &all);
+        for broken in selections.iter().filter(|one| is_broken(one)) {
             if leaves_pins_alone(&all, &levels, broken) {
                 kept[broken.first..=broken.last].fill(false);
                 taken_out += 1;
@@ -177,6 +219,7 @@ fn broken_selections_can_be_taken_out_whole() {
         );
         assert_eq!(first, second);
         assert_eq!(whole.status_byte, without.status_byte);
+        assert_eq!(whole.counts, without.counts);
     }
     assert!(taken_out > 300, "only {taken_out} broken selections");
 }

@@ -3,7 +3,7 @@
 mod common;
 
 use common::Board;
-use m95_model::generate::{view_bytes, views, View};
+use m95_model::generate::{lendings, view_bytes, views, Lending, View};
 use m95_model::{
     append_record, device, event, prepare, run, view, Device, Event, Fault, Number, Output, Ran,
     Region, State, DEVICES,
@@ -26,41 +26,51 @@ fn ran(number: Number, done: usize, taken: usize) -> Ran {
 }
 
 /// A copy of everything that a refused call must leave.
-fn whole(board: &Board) -> (State, Vec<u8>, Vec<u8>, Vec<u8>) {
+fn whole(board: &Board) -> (State, Vec<u8>, Vec<u8>, Vec<u8>, Vec<u16>) {
     (
         board.state.clone(),
         board.cells.clone(),
         board.identification.clone(),
         board.latch.clone(),
+        board.counts.clone(),
     )
 }
 
 #[test]
 fn preparing() {
-    for (number, cells, page, identification) in [
-        (1, 512, 16, 16),
-        (2, 16_384, 64, 64),
-        (3, 131_072, 256, 256),
-        (4, 262_144, 256, 256),
-        (5, 128, 16, 0),
-        (6, 256, 16, 0),
-        (7, 16_384, 64, 0),
+    for (number, cells, page, identification, pages) in [
+        (1, 512, 16, 16, 32),
+        (2, 16_384, 64, 64, 256),
+        (3, 131_072, 256, 256, 512),
+        (4, 262_144, 256, 256, 1024),
+        (5, 128, 16, 0, 8),
+        (6, 256, 16, 0, 16),
+        (7, 16_384, 64, 0, 256),
     ] {
-        let (mut array, mut identification, mut latch) =
-            (vec![1; cells], vec![2; identification], vec![3; 2 * page]);
-        let (done, state) = prepare(number, &mut array, &mut identification, &mut latch);
+        let (mut array, mut identification, mut latch, mut counts) = (
+            vec![1; cells],
+            vec![2; identification],
+            vec![3; 2 * page],
+            vec![4; pages],
+        );
+        let (done, state) = prepare(
+            number,
+            &mut array,
+            &mut identification,
+            &mut latch,
+            &mut counts,
+        );
         assert_eq!(done, Number::Done);
         assert!(array.iter().all(|&cell| cell == 0xFF));
         assert!(latch.iter().all(|&byte| byte == 0));
-        let start: &[u8] = if number == 4 {
-            &[0x20, 0x00, 0x12]
-        } else {
-            &[]
+        assert!(counts.iter().all(|&count| count == 0));
+        let start: &[u8] = match number {
+            4 => &[0x20, 0x00, 0x12],
+            _ => &[],
         };
         assert!(identification.starts_with(start));
-        assert!(identification[start.len()..]
-            .iter()
-            .all(|&byte| byte == 0xFF));
+        let rest = &identification[start.len()..];
+        assert!(rest.iter().all(|&byte| byte == 0xFF));
         assert!(state.select && state.hold && state.protect && !state.clock && !state.data);
         assert!(!state.selected && !state.locked && !state.write_enable_latch && !state.in_cycle());
         assert_eq!(state.status, 0);
@@ -70,43 +80,64 @@ fn preparing() {
 #[test]
 fn refused_preparing_changes_nothing() {
     // Everything is wrong at first; then one thing after another is made right.
-    for (number, cells, page, latch, expected) in [
-        (0, 511, 15, 33, Number::Device),
-        (8, 511, 15, 33, Number::Device),
-        (1, 511, 15, 33, Number::Cells),
-        (1, 16_384, 15, 33, Number::Cells),
-        (1, 512, 15, 33, Number::Identification),
-        (1, 512, 16, 33, Number::Latch),
-        (1, 512, 16, 16, Number::Latch),
+    for (number, cells, page, latch, pages, expected) in [
+        (0, 511, 15, 33, 33, Number::Device),
+        (8, 511, 15, 33, 33, Number::Device),
+        (1, 511, 15, 33, 33, Number::Cells),
+        (1, 16_384, 15, 33, 33, Number::Cells),
+        (1, 512, 15, 33, 33, Number::Identification),
+        (1, 512, 16, 33, 33, Number::Latch),
+        (1, 512, 16, 16, 32, Number::Latch),
+        (1, 512, 16, 32, 33, Number::Counts),
+        (1, 512, 16, 32, 31, Number::Counts),
+        (1, 512, 16, 32, 0, Number::Counts),
     ] {
-        let (mut array, mut identification, mut lent) =
-            (vec![1; cells], vec![2; page], vec![3; latch]);
-        let (got, state) = prepare(number, &mut array, &mut identification, &mut lent);
+        let (mut array, mut identification, mut lent, mut counts) = (
+            vec![1; cells],
+            vec![2; page],
+            vec![3; latch],
+            vec![4; pages],
+        );
+        let (got, state) = prepare(
+            number,
+            &mut array,
+            &mut identification,
+            &mut lent,
+            &mut counts,
+        );
         assert_eq!(got, expected);
         assert_eq!(state, State::prepared());
         assert!(array.iter().all(|&byte| byte == 1));
         assert!(identification.iter().all(|&byte| byte == 2));
         assert!(lent.iter().all(|&byte| byte == 3));
+        assert!(counts.iter().all(|&count| count == 4));
     }
 }
 
 #[test]
-fn events_and_traces_give_1_to_5_in_order() {
+fn events_and_traces_give_1_to_4_14_and_5_in_order() {
     let sound = State::prepared();
     let unsound = State {
         address: 512,
         ..State::prepared()
     };
-    for (number, state, cells, page, latch, expected) in [
-        (9, &unsound, 511, 15, 33, Number::Device),
-        (1, &unsound, 511, 15, 33, Number::Cells),
-        (1, &unsound, 512, 15, 33, Number::Identification),
-        (1, &unsound, 512, 16, 33, Number::Latch),
-        (1, &unsound, 512, 16, 32, Number::State),
-        (1, &sound, 512, 16, 32, Number::State), // a mark of 3
+    for (number, state, cells, page, latch, pages, expected) in [
+        (9, &unsound, 511, 15, 33, 31, Number::Device),
+        (1, &unsound, 511, 15, 33, 31, Number::Cells),
+        (1, &unsound, 512, 15, 33, 31, Number::Identification),
+        (1, &unsound, 512, 16, 33, 31, Number::Latch),
+        (1, &unsound, 512, 16, 32, 31, Number::Counts),
+        (1, &unsound, 512, 16, 32, 33, Number::Counts),
+        (1, &unsound, 512, 16, 32, 32, Number::State),
+        (1, &sound, 512, 16, 32, 31, Number::Counts),
+        (1, &sound, 512, 16, 32, 32, Number::State), // a mark of 3
     ] {
-        let (mut array, mut identification, mut lent) =
-            (vec![1; cells], vec![2; page], vec![3; latch]);
+        let (mut array, mut identification, mut lent, mut counts) = (
+            vec![1; cells],
+            vec![2; page],
+            vec![3; latch],
+            vec![4; pages],
+        );
         let mut after = state.clone();
         let given = event(
             number,
@@ -114,6 +145,7 @@ fn events_and_traces_give_1_to_5_in_order() {
             &mut array,
             &mut identification,
             &mut lent,
+            &mut counts,
             Event::Power,
         );
         assert_eq!(given, (expected, Output::Z));
@@ -126,6 +158,7 @@ fn events_and_traces_give_1_to_5_in_order() {
                 &mut array,
                 &mut identification,
                 &mut lent,
+                &mut counts,
                 &trace,
                 &mut answers,
                 limit,
@@ -136,6 +169,7 @@ fn events_and_traces_give_1_to_5_in_order() {
         assert_eq!(&after, state);
         assert!(array.iter().all(|&byte| byte == 1));
         assert!(lent.iter().all(|&byte| byte == 3));
+        assert!(counts.iter().all(|&count| count == 4));
     }
 }
 
@@ -419,5 +453,64 @@ fn every_chosen_view_gives_the_number_due() {
             }
         }
         assert_eq!(seen.len(), 5 + 4, "all numbers, 13 for cells alone");
+    }
+}
+
+/// The number of preparing by the table alone, and behind it that of an event.
+fn numbers_due(lending: &Lending) -> [Number; 2] {
+    let Some(row) = device(lending.device) else {
+        return [Number::Device; 2];
+    };
+    let rows = [
+        (Number::Cells, lending.cells != row.cells),
+        (
+            Number::Identification,
+            lending.identification != row.identification,
+        ),
+        (Number::Latch, lending.latch != 2 * row.page),
+        (Number::Counts, lending.counts != row.cells / row.page),
+        (Number::State, !lending.is_sound),
+    ];
+    let due = |rows: &[(Number, bool)]| {
+        let first = rows.iter().find(|(_, fits)| *fits);
+        first.map_or(Number::Done, |(number, _)| *number)
+    };
+    [due(&rows[..4]), due(&rows)]
+}
+
+/// 14 comes right after 4 and before 5, in preparing too, and what is refused is left as it was.
+#[test]
+fn every_chosen_lending_gives_the_number_due() {
+    for row in &DEVICES {
+        let mut seen = Vec::new();
+        for lending in lendings(row) {
+            let numbers = numbers_due(&lending);
+            let calls = [lending.prepare(Fault::None), lending.event(Fault::None)];
+            for (left, number) in calls.iter().zip(numbers) {
+                assert_eq!(left.number, number, "{lending:?}");
+                let lent = lending.lent();
+                let is_left = left.cells == lent.cells
+                    && left.identification == lent.identification
+                    && left.latch == lent.latch
+                    && left.counts == lent.counts;
+                let prepared = left.answer.is_none() && number == Number::Done;
+                assert_eq!(is_left, !prepared, "{lending:?}");
+                if left.answer.is_some() && number != Number::Done {
+                    assert_eq!((left.answer, &left.state), (Some(Output::Z), &lent.state));
+                }
+            }
+            seen.extend(numbers);
+        }
+        for number in [
+            Number::Done,
+            Number::Device,
+            Number::Cells,
+            Number::Identification,
+            Number::Latch,
+            Number::Counts,
+            Number::State,
+        ] {
+            assert!(seen.contains(&number), "{} {number:?}", row.name);
+        }
     }
 }

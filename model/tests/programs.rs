@@ -182,6 +182,40 @@ fn play_takes_a_raw_image_and_stores_the_long_form() {
     assert_eq!(place.get("chip"), chip);
 }
 
+/// 204.10: a chip's file holds no counts, so they are taken from its cells; or the first write to it would end in 15.
+/// Pages of 256 with no blank cell are among these.
+#[test]
+fn play_writes_to_a_chip_that_is_not_blank() {
+    for (device, cells, address, identification) in [
+        ("1", 512, &[0x20][..], 16),
+        ("3", 131_072, &[0x00, 0x01, 0x00], 256),
+        ("5", 128, &[0x20], 0),
+    ] {
+        let place = Place::new("not_blank");
+        let mut chip = vec![0x00; cells];
+        place.put("chip", &chip);
+        // The same page twice: a byte, then a blank cell.
+        let write = |byte| {
+            let command = [&[0x02], address, &[byte]].concat();
+            let wait = vec![Event::Wait(5000)];
+            [selection(&[0x06]), selection(&command), wait].concat()
+        };
+        let events = [write(0xA5), write(0xFF), write(0xFF)].concat();
+        let bytes = place.put_trace(&events);
+        let expected = format!("end 0 00 records {} bytes {bytes}\n", events.len());
+        assert_eq!(line(&place.play(device)), expected);
+        // In the form that it was left in, too, which is the long one.
+        assert_eq!(line(&place.play(device)), expected);
+        let written = address
+            .iter()
+            .fold(0, |all, &byte| all << 8 | usize::from(byte));
+        chip[written] = 0xFF;
+        chip.extend(vec![0xFF; identification]);
+        chip.extend([0, 0]);
+        assert_eq!(place.get("chip"), chip);
+    }
+}
+
 #[test]
 fn play_reads_status_and_lock_and_stops_at_a_refusal() {
     let place = Place::new("status");

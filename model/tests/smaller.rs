@@ -361,6 +361,7 @@ fn the_identification_buffer_has_no_bytes() {
         ] {
             let (mut cells, mut identification, mut latch) =
                 (vec![1; cells], vec![2; identification], vec![1; latch]);
+            let mut counts = vec![3; row.pages()];
             let mut state = State::prepared();
             // A mark of 1 is as good as one of 0, so a latch of ones is sound.
             let given = event(
@@ -369,6 +370,7 @@ fn the_identification_buffer_has_no_bytes() {
                 &mut cells,
                 &mut identification,
                 &mut latch,
+                &mut counts,
                 Event::Power,
             );
             assert_eq!(given, (expected, Output::Z));
@@ -378,6 +380,7 @@ fn the_identification_buffer_has_no_bytes() {
                 &mut cells,
                 &mut identification,
                 &mut latch,
+                &mut counts,
                 &[],
                 &mut [],
                 0,
@@ -387,7 +390,14 @@ fn the_identification_buffer_has_no_bytes() {
             let is_untouched = |bytes: &[u8], byte| bytes.iter().all(|&one| one == byte);
             assert!(is_untouched(&cells, 1) && is_untouched(&latch, 1));
             assert!(is_untouched(&identification, 2));
-            let (done, _) = prepare(number, &mut cells, &mut identification, &mut latch);
+            assert_eq!(counts, vec![3; row.pages()]);
+            let (done, _) = prepare(
+                number,
+                &mut cells,
+                &mut identification,
+                &mut latch,
+                &mut counts,
+            );
             assert_eq!(done, expected);
             let prepared = expected == Number::Done;
             assert!(is_untouched(&cells, if prepared { 0xFF } else { 1 }));
@@ -558,6 +568,7 @@ fn refused_preparing_gives_one_and_the_same_state() {
                 &mut vec![1; cells],
                 &mut vec![2; identification],
                 &mut vec![3; latch],
+                &mut [4; 8],
             );
             assert_ne!(refused, Number::Done);
             assert_eq!(state, State::prepared());

@@ -1,12 +1,15 @@
 //! The vectors that `store` writes: their layout, their size, and that the right model gives them again.
 
+mod common;
+
 use std::fs;
 use std::path::{Path, PathBuf};
 use std::process::Command;
 use std::sync::OnceLock;
 
+use common::Board;
 use m95_model::generate::Profile;
-use m95_model::{append_record, device, Event, Fault, Vector};
+use m95_model::{append_record, device, Cycle, Event, Fault, Vector};
 
 /// How many vectors each file had before there were some about the service sheet, in the order of the profiles, and
 /// what these are together.
@@ -114,6 +117,39 @@ fn stored_vectors_notice_every_fault_that_they_can() {
         .expect("sharpness starts");
     let text = String::from_utf8_lossy(&output.stdout);
     assert_eq!(output.status.code(), Some(0), "{text}");
+}
+
+/// The pages on which the array cycles of a trace end, in turn.
+fn pages_written(vector: &Vector) -> Vec<usize> {
+    let mut board = Board::new(vector.device);
+    let mut pages = Vec::new();
+    let mut taken = 0;
+    for _ in 0..vector.answers.len() {
+        let (cycle, page) = (board.state.cycle, board.state.page_start);
+        taken += board.run(&vector.trace[taken..], &mut [7], 1).taken;
+        if cycle == Cycle::Array && board.state.cycle == Cycle::None {
+            pages.push(page);
+        }
+    }
+    pages
+}
+
+/// Why most faults about counts go unnoticed here: a count that was set wrongly is not tested again.
+#[test]
+fn no_vector_writes_to_a_page_twice() {
+    let mut written = 0;
+    for profile in Profile::ALL {
+        let file = fs::read(stored().join(profile.name())).expect("a file");
+        for vector in Vector::read_all(&file).expect("whole vectors") {
+            let mut pages = pages_written(&vector);
+            let writes = pages.len();
+            pages.sort_unstable();
+            pages.dedup();
+            assert_eq!(pages.len(), writes, "{}", profile.name());
+            written += writes;
+        }
+    }
+    assert!(written > 200, "{written} writes");
 }
 
 /// One vector, byte by byte: WREN, and a record that is cut.

@@ -1,6 +1,6 @@
 //! `benchmark [RECORDS]`: the same traces through the proved library and through the plain Rust model, in turns in one run: records a
 //! second of each, their ratio, and the library against the real bus. Traces grow tenfold from 1,000 records as long as they have at most
-//! RECORDS (ten million where none is said). The shortest time of several turns counts; answers and cells of both must be equal.
+//! RECORDS (ten million where none is said). The shortest time of several turns counts; answers, cells and counts of both must be equal.
 
 use std::process::ExitCode;
 use std::time::{Duration, Instant};
@@ -60,10 +60,10 @@ fn row(device: usize, kind: Kind, records: usize) {
         best.0 = best.0.min(ours.proved(device, &trace));
         best.1 = best.1.min(model.plain(device, &trace));
     }
+    let same = ours.answers == model.answers && ours.cells == model.cells;
     assert!(
-        ours.answers == model.answers && ours.cells == model.cells,
-        "the two differ on {} records",
-        records
+        same && ours.counts == model.counts,
+        "the two differ on {records} records"
     );
     let rate = |time: Duration| records as f64 / time.as_secs_f64();
     println!(
@@ -87,6 +87,7 @@ struct Bench {
     cells: Vec<u8>,
     identification: Vec<u8>,
     latch: Vec<u8>,
+    counts: Vec<u16>,
     answers: Vec<u8>,
 }
 
@@ -97,6 +98,7 @@ impl Bench {
             cells: vec![0; proved::cells(device)],
             identification: vec![0; proved::identification(device)],
             latch: vec![0; 2 * proved::page(device)],
+            counts: vec![0; proved::pages(device)],
             answers: vec![0; records],
         }
     }
@@ -108,6 +110,7 @@ impl Bench {
             cells: &mut self.cells,
             identification: &mut self.identification,
             latch: &mut self.latch,
+            counts: &mut self.counts,
         };
         assert_eq!(proved::prepare(device, &mut lent), 0);
         let start = Instant::now();
@@ -120,9 +123,9 @@ impl Bench {
     /// The same by the model.
     fn plain(&mut self, device: usize, trace: &[u8]) -> Duration {
         let number = device as u8;
-        let (cells, identification, latch) =
-            (&mut self.cells, &mut self.identification, &mut self.latch);
-        let (_, mut state) = m95_model::prepare(number, cells, identification, latch);
+        let (cells, identification) = (&mut self.cells, &mut self.identification);
+        let (latch, counts) = (&mut self.latch, &mut self.counts);
+        let (_, mut state) = m95_model::prepare(number, cells, identification, latch, counts);
         let start = Instant::now();
         let ran = m95_model::run(
             number,
@@ -130,6 +133,7 @@ impl Bench {
             cells,
             identification,
             latch,
+            counts,
             trace,
             &mut self.answers,
             usize::MAX,

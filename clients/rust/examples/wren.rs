@@ -10,6 +10,7 @@ fn main() {
         cells: &mut vec![0; proved::cells(DEVICE)],
         identification: &mut vec![0; proved::identification(DEVICE)],
         latch: &mut vec![0; 2 * proved::page(DEVICE)],
+        counts: &mut vec![0; proved::pages(DEVICE)],
     };
     let mut trace = Vec::new();
     for bit in (0..8).rev() {

@@ -33,6 +33,10 @@ pub mod refused {
     pub const POWER: usize = 11;
     /// An address past the cells.
     pub const ADDRESS: usize = 13;
+    /// Counts of a wrong length: not one for each page.
+    pub const COUNTS: usize = 14;
+    /// A wait that would end the write to a page whose count is not the number of its cells other than FFh.
+    pub const COUNT: usize = 15;
 }
 
 /// Kinds of events; what the value of each is stands beside it.
@@ -67,6 +71,7 @@ mod c {
         pub fn m95_cells(device: usize) -> usize;
         pub fn m95_page(device: usize) -> usize;
         pub fn m95_identification(device: usize) -> usize;
+        pub fn m95_pages(device: usize) -> usize;
         pub fn m95_refusal(
             device: usize,
             state: *const u8,
@@ -77,6 +82,8 @@ mod c {
             identification_length: usize,
             latch: *const u8,
             latch_length: usize,
+            counts: *const u16,
+            counts_length: usize,
         ) -> usize;
         pub fn m95_prepare(
             device: usize,
@@ -88,6 +95,15 @@ mod c {
             identification_length: usize,
             latch: *mut u8,
             latch_length: usize,
+            counts: *mut u16,
+            counts_length: usize,
+        ) -> usize;
+        pub fn m95_count_pages(
+            device: usize,
+            cells: *const u8,
+            cells_length: usize,
+            counts: *mut u16,
+            counts_length: usize,
         ) -> usize;
         pub fn m95_load(
             device: usize,
@@ -106,6 +122,8 @@ mod c {
             identification_length: usize,
             latch: *mut u8,
             latch_length: usize,
+            counts: *mut u16,
+            counts_length: usize,
             kind: usize,
             value: usize,
             answer: *mut usize,
@@ -120,6 +138,8 @@ mod c {
             identification_length: usize,
             latch: *mut u8,
             latch_length: usize,
+            counts: *mut u16,
+            counts_length: usize,
             trace: *const u8,
             trace_length: usize,
             answers: *mut u8,
@@ -149,7 +169,7 @@ mod c {
     }
 }
 
-/// A call on a device's four buffers, each as its pointer, got by `$pointer`, and its length; what more the call takes comes after them.
+/// A call on a device's five buffers, each as its pointer, got by `$pointer`, and its length; what more the call takes comes after them.
 macro_rules! lend {
     ($call:ident, $pointer:ident, $device:expr, $lent:expr $(, $more:expr)*) => {
         c::$call(
@@ -161,18 +181,22 @@ macro_rules! lend {
             $lent.identification.$pointer(),
             $lent.identification.len(),
             $lent.latch.$pointer(),
-            $lent.latch.len()
+            $lent.latch.len(),
+            $lent.counts.$pointer(),
+            $lent.counts.len()
             $(, $more)*
         )
     };
 }
 
-/// A device's four buffers, lent to a call.
+/// A device's five buffers, lent to a call.
 pub struct Lent<'a> {
     pub state: &'a mut [u8],
     pub cells: &'a mut [u8],
     pub identification: &'a mut [u8],
     pub latch: &'a mut [u8],
+    /// For each page how many of its cells are other than FFh.
+    pub counts: &'a mut [u16],
 }
 
 /// How a trace ended: its number, the bytes that the records done took, and how many they are.
@@ -208,18 +232,41 @@ pub fn identification(device: usize) -> usize {
     unsafe { c::m95_identification(device) }
 }
 
-/// What `event` and `run` refuse the buffers with: 1 to 5, or 0.
+/// The pages that a device's cells make, each of which has a count; 0 for a number that is no device's.
+pub fn pages(device: usize) -> usize {
+    // SAFETY: it takes and gives numbers only.
+    unsafe { c::m95_pages(device) }
+}
+
+/// What `event` and `run` refuse the buffers with: 1 to 4, 14, 5, or 0. What the counts say is not looked at.
 #[must_use]
 pub fn refusal(device: usize, lent: &Lent) -> usize {
     // SAFETY: each pointer is a slice's, with the slice's length, and nothing is written.
     unsafe { lend!(m95_refusal, as_ptr, device, lent) }
 }
 
-/// Prepares a device: 1 to 4, 5 for a state's room of a wrong length, or 0. Refused with 1 to 4 it puts the prepared state all the same.
+/// Prepares a device: 1 to 4, 14, 5 for a state's room of a wrong length, or 0. Refused with 1 to 4 or 14 it puts the prepared state all
+/// the same.
 #[must_use]
 pub fn prepare(device: usize, lent: &mut Lent) -> usize {
     // SAFETY: each pointer is a slice's, with the slice's length, and the slices are lent for writing, so that none overlap.
     unsafe { lend!(m95_prepare, as_mut_ptr, device, lent) }
+}
+
+/// Counts each page of a device afresh from its cells: 1, 2, 14, or 0; refused, it leaves the counts. For whoever fills cells otherwise than
+/// by `prepare` and events: before the next event, since a write to a page that is not counted right does not end.
+#[must_use]
+pub fn count_pages(device: usize, cells: &[u8], counts: &mut [u16]) -> usize {
+    // SAFETY: each pointer is a slice's, with the slice's length, and the counts are lent for writing.
+    unsafe {
+        c::m95_count_pages(
+            device,
+            cells.as_ptr(),
+            cells.len(),
+            counts.as_mut_ptr(),
+            counts.len(),
+        )
+    }
 }
 
 /// Puts the state of a device that has just got its power, with the status bits and the lock that it has stored: 1; 5 for a room of a
@@ -231,7 +278,8 @@ pub fn load(device: usize, state: &mut [u8], status: usize, lock: usize) -> usiz
     unsafe { c::m95_load(device, state.as_mut_ptr(), state.len(), status, lock) }
 }
 
-/// One event, by its kind and its value: its number, and how it answers (0, 1, or 2 for Z).
+/// One event, by its kind and its value: its number, and how it answers (0, 1, or 2 for Z). The wait that ends a write to a page sets the
+/// page's count; where that is wrong already, it gets 15 and nothing changes.
 #[must_use]
 pub fn event(device: usize, lent: &mut Lent, kind: usize, value: usize) -> (usize, usize) {
     let mut answer = 0;

@@ -1,46 +1,33 @@
 //! The wrapper's calls beside the second model's: generated traces of every profile whole, in pieces and event by event, the numbers
-//! of lent buffers, views, and states of any bytes. Nothing is expected of either but what the other says.
+//! of lent buffers, views, and states of any bytes. Nothing is expected of either but what the other says. What wrong counts do is in
+//! counts.rs.
 
 mod common;
 
-use common::Buffers;
+use common::{tells_the_same, Buffers, Pair};
 use m95_model::generate::{
     events, records_of, trace_with_tail, view_bytes, views, Profile, Random, View, TAILS,
 };
-use m95_model::{Device, Event, Fault, Number, Output, State, DEVICES};
-use proved::{kind, pin, refused, Region, STATE_BYTES};
+use m95_model::{Device, Event, Fault, Number, Output, DEVICES};
+use proved::{kind, refused, Region, STATE_BYTES};
 
-/// Both prepared.
-fn prepared(device: usize) -> (Buffers, Buffers, State) {
-    let (mut ours, mut model) = (Buffers::new(device), Buffers::new(device));
-    assert_eq!(proved::prepare(device, &mut ours.lent()), 0);
-    let (number, state) = m95_model::prepare(
-        device as u8,
-        &mut model.cells,
-        &mut model.identification,
-        &mut model.latch,
-    );
-    assert_eq!(number as usize, 0);
-    assert!(ours.stored() == model.stored());
-    (ours, model, state)
-}
-
-fn sizes(device: usize) -> (usize, usize, usize) {
+fn sizes(device: usize) -> (usize, usize, usize, usize) {
     (
         proved::cells(device),
         proved::page(device),
         proved::identification(device),
+        proved::pages(device),
     )
 }
 
 #[test]
 fn sizes_are_the_models() {
     for row in &DEVICES {
-        let own = (row.cells, row.page, row.identification);
+        let own = (row.cells, row.page, row.identification, row.pages());
         assert_eq!(sizes(usize::from(row.number)), own);
     }
     for device in [0, 8, 255, 256, 257, 260, 263, usize::MAX] {
-        assert_eq!(sizes(device), (0, 0, 0));
+        assert_eq!(sizes(device), (0, 0, 0, 0));
     }
 }
 
@@ -59,49 +46,18 @@ fn refusals_have_the_models_numbers() {
         (refused::ANSWERS, Number::Answers),
         (refused::POWER, Number::Power),
         (refused::ADDRESS, Number::Address),
+        (refused::COUNTS, Number::Counts),
+        (refused::COUNT, Number::Miscounted),
     ] {
         assert_eq!(ours, model as usize);
     }
 }
 
 /// Runs a trace in pieces of at most `limit` records through both, with room for `room` answers in all.
-fn run_both(device: usize, trace: &[u8], limit: usize, room: usize) {
-    run_from(device, prepared(device), trace, limit, room);
-}
-
-/// The same from where both stand.
-fn run_from(
-    device: usize,
-    from: (Buffers, Buffers, State),
-    trace: &[u8],
-    limit: usize,
-    room: usize,
-) {
-    let (mut ours, mut model, mut state) = from;
-    let (mut answers, mut others) = (vec![7; room], vec![7; room]);
+fn run_both(mut pair: Pair, trace: &[u8], limit: usize, room: usize) {
     let (mut at, mut answered) = (0, 0);
     loop {
-        let ran = proved::run(
-            device,
-            &mut ours.lent(),
-            &trace[at..],
-            &mut answers[answered..],
-            limit,
-        );
-        let other = m95_model::run(
-            device as u8,
-            &mut state,
-            &mut model.cells,
-            &mut model.identification,
-            &mut model.latch,
-            &trace[at..],
-            &mut others[answered..],
-            limit,
-        );
-        let told = (other.number as usize, other.taken, other.done);
-        assert_eq!((ran.number, ran.taken, ran.done), told);
-        assert!(ours.stored() == model.stored() && answers == others);
-        tells_the_same(&ours.state, &state);
+        let ran = pair.run(&trace[at..], room - answered, limit);
         at += ran.taken;
         answered += ran.done;
         if ran.number != 0 || at == trace.len() || ran.done == 0 {
@@ -110,24 +66,15 @@ fn run_from(
     }
 }
 
-/// What can be asked of a state, asked of both.
-fn tells_the_same(ours: &[u8], model: &State) {
-    let status = m95_model::status_byte(model);
-    assert_eq!(proved::status_byte(ours), Ok(status.into()));
-    let (bits, lock) = m95_model::stored(model);
-    assert_eq!(proved::stored(ours), Ok((bits.into(), lock.into())));
-}
-
 #[test]
 fn traces_of_every_profile() {
     for row in &DEVICES {
         for profile in Profile::ALL {
             for seed in 1..=3 {
                 let trace = trace_with_tail(profile, row, seed, 20_000, seed as usize % TAILS);
-                let device = usize::from(row.number);
-                run_both(device, &trace, usize::MAX, trace.len());
-                run_both(device, &trace, 257, trace.len());
-                run_both(device, &trace, usize::MAX, 1_000);
+                run_both(Pair::prepared(row), &trace, usize::MAX, trace.len());
+                run_both(Pair::prepared(row), &trace, 257, trace.len());
+                run_both(Pair::prepared(row), &trace, usize::MAX, 1_000);
             }
         }
     }
@@ -138,23 +85,28 @@ fn every_tail() {
     for row in &DEVICES {
         for which in 0..TAILS {
             let trace = trace_with_tail(Profile::Malformed, row, which as u64, 200, which);
-            run_both(usize::from(row.number), &trace, usize::MAX, trace.len());
+            run_both(Pair::prepared(row), &trace, usize::MAX, trace.len());
         }
     }
 }
 
 /// Both loaded with these status bits and this lock, and with the same bytes of chance in cells and identification page.
-fn loaded(device: usize, status: u8, lock: u8, random: &mut Random) -> (Buffers, Buffers, State) {
-    let (mut ours, mut model, _) = prepared(device);
-    ours.cells.fill_with(|| random.below(256) as u8);
-    ours.identification.fill_with(|| random.below(256) as u8);
-    model.cells.clone_from(&ours.cells);
-    model.identification.clone_from(&ours.identification);
-    let (status, lock) = (status.into(), lock.into());
-    assert_eq!(proved::load(device, &mut ours.state, status, lock), 0);
-    let (number, state) = m95_model::load(device as u8, status as u8, lock as u8);
+fn loaded(row: &'static Device, status: u8, lock: u8, random: &mut Random) -> Pair {
+    let mut pair = Pair::prepared(row);
+    pair.ours.cells.fill_with(|| random.below(256) as u8);
+    pair.ours
+        .identification
+        .fill_with(|| random.below(256) as u8);
+    pair.model.cells.clone_from(&pair.ours.cells);
+    let page = &pair.ours.identification;
+    pair.model.identification.clone_from(page);
+    pair.count_pages();
+    let device = pair.device();
+    let number = proved::load(device, &mut pair.ours.state, status.into(), lock.into());
+    assert_eq!(number, 0);
+    let (number, state) = m95_model::load(row.number, status, lock);
     assert_eq!(number, Number::Done);
-    (ours, model, state)
+    Pair { state, ..pair }
 }
 
 /// WREN, WRSR of the given bits, and RDSR, with no pin set to the level at which a loaded chip has it. A generated trace sets all pins
@@ -185,11 +137,10 @@ fn traces_of_loaded_chips() {
     for row in &DEVICES {
         for bits in (0..=255).filter(|bits| bits & !row.status_bits() == 0) {
             for lock in 0..=u8::from(row.has_identification()) {
-                let device = usize::from(row.number);
-                let from = loaded(device, bits, lock, &mut random);
+                let pair = loaded(row, bits, lock, &mut random);
                 let mut trace = trusting_start(bits);
                 trace.extend(records_of(&events(Profile::Mixed, row, bits.into(), 5_000)));
-                run_from(device, from, &trace, 1_000, trace.len());
+                run_both(pair, &trace, 1_000, trace.len());
             }
         }
     }
@@ -209,7 +160,7 @@ fn loading_is_the_models() {
                     number as usize
                 );
                 if number == Number::Done {
-                    tells_the_same(&state, &model);
+                    assert!(tells_the_same(&state, &model));
                 } else {
                     assert!(state == [0xA5; STATE_BYTES]);
                 }
@@ -243,60 +194,24 @@ fn versions_are_one() {
     assert_eq!(proved::version(), proved::VERSION);
 }
 
-/// An event as its kind and its value.
-fn numbers_of(event: Event) -> (usize, usize) {
-    let pin = |pin: usize, level: bool| (kind::SET_PIN, pin + usize::from(level));
-    match event {
-        Event::Clock(level) => pin(pin::C, level),
-        Event::Data(level) => pin(pin::D, level),
-        Event::Select(level) => pin(pin::S, level),
-        Event::Hold(level) => pin(pin::HOLD, level),
-        Event::Protect(level) => pin(pin::W, level),
-        Event::Wait(microseconds) => (kind::WAIT, microseconds as usize),
-        Event::Power => (kind::POWER_CYCLE, 0),
-    }
-}
-
-/// One event through both.
-fn event_both(
-    row: &Device,
-    ours: &mut Buffers,
-    model: &mut Buffers,
-    state: &mut State,
-    event: Event,
-) {
-    let (kind, value) = numbers_of(event);
-    let (number, answer) = proved::event(usize::from(row.number), &mut ours.lent(), kind, value);
-    let (other, output) = m95_model::event(
-        row.number,
-        state,
-        &mut model.cells,
-        &mut model.identification,
-        &mut model.latch,
-        event,
-    );
-    assert_eq!((number, answer), (other as usize, output as usize));
-}
-
 /// Event by event, with a power event after each in a write cycle, which must be refused.
 #[test]
 fn event_by_event() {
     for row in &DEVICES {
-        let (mut ours, mut model, mut state) = prepared(usize::from(row.number));
+        let mut pair = Pair::prepared(row);
         for event in events(Profile::Mixed, row, 5, 3_000) {
-            event_both(row, &mut ours, &mut model, &mut state, event);
-            let is_busy = m95_model::status_byte(&state) & 1 == 1;
+            pair.event(event);
+            let is_busy = m95_model::status_byte(&pair.state) & 1 == 1;
             if is_busy {
-                event_both(row, &mut ours, &mut model, &mut state, Event::Power);
+                assert_eq!(pair.event(Event::Power), refused::POWER);
             }
         }
-        assert!(ours.stored() == model.stored());
     }
 }
 
 #[test]
 fn kinds_and_values_that_are_no_event() {
-    let (mut ours, _, _) = prepared(2);
+    let mut ours = Pair::prepared(&DEVICES[1]).ours;
     let before = ours.clone();
     for kind in [0, 4, 16, 256, 257, usize::MAX] {
         assert_eq!(
@@ -313,7 +228,8 @@ fn kinds_and_values_that_are_no_event() {
     assert!(ours == before);
 }
 
-/// Buffers of every length about the right one, in every combination: the numbers are the model's.
+/// Buffers of every length about the right one, in every combination: the numbers are the model's. The bytes lent for a state are none, so
+/// that 5 is what is left for an event where all else is right.
 #[test]
 fn lengths_of_lent_buffers() {
     let lengths = |right: usize| [right, 0, right.saturating_sub(1), right + 1];
@@ -322,26 +238,8 @@ fn lengths_of_lent_buffers() {
         for cells in lengths(row.cells) {
             for page in lengths(row.identification).into_iter().chain([row.page]) {
                 for latch in lengths(2 * row.page) {
-                    let (mut cells, mut page, mut latch) =
-                        (vec![7; cells], vec![7; page], vec![0; latch]);
-                    let (number, _) =
-                        m95_model::prepare(device as u8, &mut cells, &mut page, &mut latch);
-                    for room in lengths(STATE_BYTES) {
-                        let mut buffers = Buffers {
-                            state: vec![9; room],
-                            cells: vec![7; cells.len()],
-                            identification: vec![7; page.len()],
-                            latch: vec![0; latch.len()],
-                        };
-                        let before = buffers.clone();
-                        let expected = match number as usize {
-                            0 if room != STATE_BYTES => refused::STATE,
-                            number => number,
-                        };
-                        assert_eq!(proved::prepare(device, &mut buffers.lent()), expected);
-                        if expected != 0 {
-                            assert!(buffers.stored() == before.stored());
-                        }
+                    for counts in lengths(row.pages()) {
+                        lend_lengths(device, [cells, page, latch, counts]);
                     }
                 }
             }
@@ -349,11 +247,50 @@ fn lengths_of_lent_buffers() {
     }
 }
 
+/// Buffers of these lengths, with rooms for a state that are as long as one and that are not.
+fn lend_lengths(device: usize, [cells, page, latch, counts]: [usize; 4]) {
+    let before = Buffers {
+        state: Vec::new(),
+        cells: vec![7; cells],
+        identification: vec![7; page],
+        latch: vec![0; latch],
+        counts: vec![7; counts],
+    };
+    let mut model = before.clone();
+    let (prepared, _) = m95_model::prepare(
+        device as u8,
+        &mut model.cells,
+        &mut model.identification,
+        &mut model.latch,
+        &mut model.counts,
+    );
+    let refusal = match prepared {
+        Number::Done => refused::STATE,
+        number => number as usize,
+    };
+    for room in [STATE_BYTES, 0, STATE_BYTES - 1, STATE_BYTES + 1] {
+        let mut lent = before.clone();
+        lent.state = vec![9; room];
+        assert_eq!(proved::refusal(device, &lent.lent()), refusal);
+        let (number, answer) = proved::event(device, &mut lent.lent(), kind::WAIT, 0);
+        assert_eq!((number, answer), (refusal, Output::Z as usize));
+        let ran = proved::run(device, &mut lent.lent(), &[], &mut [], 1);
+        assert_eq!((ran.number, ran.taken, ran.done), (refusal, 0, 0));
+        assert!(lent.stored() == before.stored() && lent.state == vec![9; room]);
+        let expected = match room {
+            STATE_BYTES => prepared as usize,
+            _ => refusal,
+        };
+        assert_eq!(proved::prepare(device, &mut lent.lent()), expected);
+        assert!(expected == 0 || lent.stored() == before.stored());
+    }
+}
+
 /// A prepared state with some bytes of chance is a state or gets 5, and one that takes an event is one after it.
 #[test]
 fn states_of_any_bytes() {
     let mut random = Random::new(9);
-    let (good, _, _) = prepared(3);
+    let good = Pair::prepared(&DEVICES[2]).ours;
     let mut sound = 0;
     for _ in 0..20_000 {
         let mut buffers = good.clone();

@@ -10,7 +10,7 @@ use lib.Seq.{take-append-le}
 use borrow.Author.Tests.{ne-eqb, le-leb, lt-leb, lt-ltb, le-ltb, leb-true, ltb-false, not-false}
 use Rattle.rules.specs.World.{World}
 use Rattle.rules.specs.declared.Row.{Row}
-use Rattle.rules.specs.Device.{rowOf, prepared}
+use Rattle.rules.specs.Device.{rowOf, pageCount, prepared}
 use Rattle.rules.specs.Send.{statusByte}
 use Rattle.rules.specs.Trace.{two, Progress}
 use Rattle.rules.specs.Call.{lentRefusal, preparedAs, prepareOutcome, runOutcome, firstRecord}
@@ -117,23 +117,24 @@ named input =
     }))))))
 
 -- A run of the whole trace on what preparing left is the bench's.
-pub is-bench : (device : ℕ) {n : ℕ} (cells identification latch : List ℕ) {w : World} (trace answers : List ℕ) {zeros : List ℕ} {p : Progress}
-    → lentRefusal device cells identification latch ≡ 0
-    → preparedAs n w ≡ prepareOutcome device cells identification latch
+pub is-bench : (device : ℕ) {n : ℕ} (cells identification latch counts : List ℕ) {w : World} (trace answers : List ℕ) {zeros : List ℕ} {p : Progress}
+    → lentRefusal device cells identification latch counts ≡ 0
+    → preparedAs n w ≡ prepareOutcome device cells identification latch counts
     → length answers ≡ length trace
     → zeros ≡ replicate (length answers) 0
     → p ≡ runOutcome device w trace zeros (length trace)
     → p ≡ benchRun device trace
 unfolding prepareOutcome benchRun
-is-bench device cells identification latch {w} trace answers z ew el ez ep =
+is-bench device cells identification latch counts {w} trace answers z ew el ez ep =
     let e : w ≡ prepared (rowOf device) = ap (λ x. x .world) ew ∙ rw z in
     ep ∙ rw (ez, el, e)
 
 -- What the first two devices need of the room.
-pub room : (device : ℕ) {row : Row} → row ≡ rowOf device → 1 ≤ device → device ≤ 2 → (row .cells ≤ 16_384) × (row .page ≤ 64) × (row .identification ≤ 64)
+pub room : (device : ℕ) {row : Row} → row ≡ rowOf device → 1 ≤ device → device ≤ 2
+    → (row .cells ≤ 16_384) × (row .page ≤ 64) × (row .identification ≤ 64) × (pageCount row ≤ 256)
 room zero e a b = absurd (omega arith)
-room (suc zero) e a b = rw e (lit≤ tt, lit≤ tt, lit≤ tt)
-room (suc (suc zero)) e a b = rw e (lit≤ tt, lit≤ tt, lit≤ tt)
+room (suc zero) e a b = rw e (lit≤ tt, lit≤ tt, lit≤ tt, lit≤ tt)
+room (suc (suc zero)) e a b = rw e (lit≤ tt, lit≤ tt, lit≤ tt, lit≤ tt)
 room (suc (suc (suc d))) e a b = absurd (omega arith)
 
 -- A run of the bench: how many records it can have done, and that its state's status is a byte.

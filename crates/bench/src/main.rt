@@ -10,6 +10,7 @@ fn main() {
     let mut cells = [0xFFu8; 16384];
     let mut identification = [0u8; 64];
     let mut latch = [0u8; 128];
+    let mut counts = [0u16; 256];
     let mut input = [0u8; 32769];
     let mut answers = [0u8; 32768];
     let mut out = [0u8; 196608];
@@ -27,6 +28,7 @@ fn main() {
         &mut cells,
         &mut identification,
         &mut latch,
+        &mut counts,
         &mut answers,
         &mut out,
     );

@@ -49,15 +49,16 @@ fn bench_run(
     cells: &mut [u8],
     identification: &mut [u8],
     latch: &mut [u8],
+    counts: &mut [u16],
     trace: &[u8],
     answers: &mut [u8],
 ) -> Ran
-    requires { ⌜ (lentRefusal device (now cells) (now identification) (now latch) ≡ 0) × (length (now answers) ≡ length (now trace)) ⌝ }
+    requires { ⌜ (lentRefusal device (now cells) (now identification) (now latch) (now counts) ≡ 0) × (length (now answers) ≡ length (now trace)) ⌝ }
     ensures { λ r. ⌜
-        progressOf (r .number) (r .taken) (r .done) (worldOf (r .state) (now (cells .exit)) (now (identification .exit)) (now (latch .exit))) (now (answers .exit))
+        progressOf (r .number) (r .taken) (r .done) (worldOf (r .state) (now (cells .exit)) (now (identification .exit)) (now (latch .exit)) (now (counts .exit))) (now (answers .exit))
         ≡ benchRun device (now (trace .entry)) ⌝ }
 {
-    let ready = m95::prepare(device, cells, identification, latch);
+    let ready = m95::prepare(device, cells, identification, latch, counts);
     memory::fill(answers, 0);
     let state = ready.state;
     let limit = trace.len();
@@ -67,6 +68,7 @@ fn bench_run(
         cells,
         identification,
         latch,
+        counts,
         trace,
         answers,
         limit,
@@ -102,11 +104,12 @@ fn put_trace(
     cells: &mut [u8],
     identification: &mut [u8],
     latch: &mut [u8],
+    counts: &mut [u16],
     answers: &mut [u8],
     out: &mut [u8],
 ) -> usize
     requires { ⌜ (1 ≤ device) × (device ≤ 2) × (length (now trace) ≤ 32763) ⌝ }
-    requires { ⌜ (length (now cells) ≡ 16384) × (length (now identification) ≡ 64) × (length (now latch) ≡ 128) ⌝ }
+    requires { ⌜ (length (now cells) ≡ 16384) × (length (now identification) ≡ 64) × (length (now latch) ≡ 128) × (length (now counts) ≡ 256) ⌝ }
     requires { ⌜ (length (now answers) ≡ 32768) × (length (now out) ≡ 196608) ⌝ }
     ensures { λ r. ⌜ Put (now (out .entry)) 0 (runText (benchRun device (now (trace .entry)))) (now (out .exit)) r ⌝ }
 {
@@ -115,12 +118,14 @@ fn put_trace(
     let identification_room = row.identification;
     let page = row.page;
     let both = page + page;
+    let pages = tables::page_count(row);
     let length = trace.len();
     let ran = bench_run(
         device,
         &mut cells[..room],
         &mut identification[..identification_room],
         &mut latch[..both],
+        &mut counts[..pages],
         trace,
         &mut answers[..length],
     );
@@ -133,10 +138,11 @@ pub fn bench_text(
     cells: &mut [u8],
     identification: &mut [u8],
     latch: &mut [u8],
+    counts: &mut [u16],
     answers: &mut [u8],
     out: &mut [u8],
 ) -> usize
-    requires { ⌜ (length (now cells) ≡ 16384) × (length (now identification) ≡ 64) × (length (now latch) ≡ 128) ⌝ }
+    requires { ⌜ (length (now cells) ≡ 16384) × (length (now identification) ≡ 64) × (length (now latch) ≡ 128) × (length (now counts) ≡ 256) ⌝ }
     requires { ⌜ (length (now answers) ≡ 32768) × (length (now out) ≡ 196608) ⌝ }
     ensures { λ r. ⌜ Counts r (now (out .exit)) ⌝ }
     ensures { λ r. ⌜ take r (now (out .exit)) ≡ benchText (now (input .entry)) ⌝ }
@@ -152,6 +158,7 @@ pub fn bench_text(
         cells,
         identification,
         latch,
+        counts,
         answers,
         out,
     )

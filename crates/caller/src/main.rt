@@ -1,7 +1,9 @@
 // Calls each public call of the library on good and bad input, and holds its answers. Every `expect` is proved from the contracts
 // alone, so a caller who knows nothing else can use them.
 
+use rules::Cycle;
 use rules::Event;
+use rules::Kind;
 use rules::Region;
 use rules::Stored;
 
@@ -10,9 +12,10 @@ fn prepares() {
     let mut cells = [0u8; 512];
     let mut identification = [0u8; 16];
     let mut latch = [0u8; 32];
-    let good = m95::prepare(1, &mut cells, &mut identification, &mut latch);
+    let mut counts = [0u16; 32];
+    let good = m95::prepare(1, &mut cells, &mut identification, &mut latch, &mut counts);
     check::expect(good.number == 0);
-    let bad = m95::prepare(9, &mut cells, &mut identification, &mut latch);
+    let bad = m95::prepare(9, &mut cells, &mut identification, &mut latch, &mut counts);
     check::expect(bad.number == 1);
 }
 
@@ -21,7 +24,8 @@ fn prepares_smaller() {
     let mut cells = [0u8; 128];
     let mut none = [0u8; 0];
     let mut latch = [0u8; 32];
-    let good = m95::prepare(5, &mut cells, &mut none, &mut latch);
+    let mut counts = [0u16; 8];
+    let good = m95::prepare(5, &mut cells, &mut none, &mut latch, &mut counts);
     check::expect(good.number == 0);
 }
 
@@ -30,8 +34,30 @@ fn refuses_a_page() {
     let mut cells = [0u8; 128];
     let mut page = [0u8; 16];
     let mut latch = [0u8; 32];
-    let bad = m95::prepare(5, &mut cells, &mut page, &mut latch);
+    let mut counts = [0u16; 8];
+    let bad = m95::prepare(5, &mut cells, &mut page, &mut latch, &mut counts);
     check::expect(bad.number == 3);
+}
+
+// So are counts for too few pages, with 14.
+fn refuses_counts() {
+    let mut cells = [0u8; 128];
+    let mut none = [0u8; 0];
+    let mut latch = [0u8; 32];
+    let mut few = [0u16; 7];
+    let bad = m95::prepare(5, &mut cells, &mut none, &mut latch, &mut few);
+    check::expect(bad.number == 14);
+}
+
+// The pages of an M95010 whose cells were filled by hand are counted afresh, all of them full; and those of no device are not.
+fn counts_pages() {
+    let cells = [0u8; 128];
+    let mut counts = [9u16; 8];
+    let good = m95::count_pages(5, &cells, &mut counts);
+    check::expect(good == 0);
+    check::expect(counts[7] == 16);
+    let bad = m95::count_pages(8, &cells, &mut counts);
+    check::expect(bad == 1);
 }
 
 // A view of the cells shows the page that holds address 40, and an address past them is refused with 13.
@@ -82,6 +108,7 @@ fn replies() {
     let mut cells = [0xFFu8; 512];
     let mut identification = [0xFFu8; 16];
     let mut latch = [0u8; 32];
+    let mut counts = [0u16; 32];
     let state = m95::prepared_state();
     let reply = m95::event(
         1,
@@ -89,6 +116,7 @@ fn replies() {
         &mut cells,
         &mut identification,
         &mut latch,
+        &mut counts,
         Event::Select(false),
     );
     check::expect(reply.number == 0);
@@ -99,10 +127,37 @@ fn replies() {
         &mut cells,
         &mut identification,
         &mut latch,
+        &mut counts,
         Event::Power,
     );
     check::expect(refused.number == 1);
     check::expect(refused.answer == 2);
+}
+
+// A write that would end in a blank page whose count is 1: the wait is refused with 15.
+fn refuses_a_wrong_count() {
+    let mut cells = [0xFFu8; 512];
+    let mut identification = [0xFFu8; 16];
+    let mut latch = [0u8; 32];
+    let mut counts = [1u16; 32];
+    let mut state = m95::prepared_state();
+    let cycle = Cycle {
+        kind: Kind::Array,
+        next: 0,
+    };
+    state.cycle = cycle;
+    state.place.left = 1;
+    let refused = m95::event(
+        1,
+        state,
+        &mut cells,
+        &mut identification,
+        &mut latch,
+        &mut counts,
+        Event::Wait(1),
+    );
+    check::expect(refused.number == 15);
+    check::expect(counts[0] == 1);
 }
 
 // A trace of one record on a prepared device, and on none.
@@ -110,6 +165,7 @@ fn runs() {
     let mut cells = [0xFFu8; 512];
     let mut identification = [0xFFu8; 16];
     let mut latch = [0u8; 32];
+    let mut counts = [0u16; 32];
     let trace = [3u8, 0, 1, 0, 4];
     let mut answers = [9u8; 1];
     let state = m95::prepared_state();
@@ -119,6 +175,7 @@ fn runs() {
         &mut cells,
         &mut identification,
         &mut latch,
+        &mut counts,
         &trace,
         &mut answers,
         5,
@@ -132,6 +189,7 @@ fn runs() {
         &mut cells,
         &mut identification,
         &mut latch,
+        &mut counts,
         &trace,
         &mut answers,
         5,
@@ -145,10 +203,11 @@ fn judges() {
     let cells = [0xFFu8; 512];
     let identification = [0xFFu8; 16];
     let latch = [0u8; 32];
+    let counts = [0u16; 32];
     let state = m95::prepared_state();
-    let good = m95::world_refused(1, state, &cells, &identification, &latch);
+    let good = m95::world_refused(1, state, &cells, &identification, &latch, &counts);
     check::expect(good == 0);
-    let none = m95::world_refused(8, state, &cells, &identification, &latch);
+    let none = m95::world_refused(8, state, &cells, &identification, &latch, &counts);
     check::expect(none == 1);
 }
 
@@ -177,11 +236,14 @@ fn main() {
     prepares();
     prepares_smaller();
     refuses_a_page();
+    refuses_counts();
+    counts_pages();
     loads();
     judges();
     tells_status();
     views_cells();
     views_identification();
     replies();
+    refuses_a_wrong_count();
     runs();
 }

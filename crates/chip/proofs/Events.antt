@@ -8,11 +8,11 @@ use Rattle.rules.specs.declared.Event.{Event}
 use Rattle.rules.specs.declared.Level.{Level}
 use Rattle.rules.specs.declared.State.{State}
 use Rattle.rules.specs.World.{World, worldOf, withPins, withSelection, withState}
-use Rattle.rules.specs.Instruction.{busy}
+use Rattle.rules.specs.Instruction.{changes, busy}
 use Rattle.rules.specs.Receive.{risen, risenLatch}
 use Rattle.rules.specs.Send.{fallen}
 use Rattle.rules.specs.Judge.{judged}
-use Rattle.rules.specs.Cycle.{waitedState, waited}
+use Rattle.rules.specs.Cycle.{isMiscounted, ends, waitedState, waited}
 use Rattle.rules.specs.Event.{pinsAfter, selected, deselected, sawLow, decodes, react, settled, step, answer, refusal}
 use Rattle.rules.specs.Trace.{answerByte}
 use Rattle.chip.specs.Alone.{stepAlone}
@@ -61,42 +61,42 @@ module _ (row : Row) (s : State) {r : State} {high : Bool} where
   protect-low h er = er ∙ rw h
 
 -- The clock.
-module _ (row : Row) (s : State) (latch : List ℕ) {t r : State} {cells identification : List ℕ} {high d : Bool} (ed : d ≡ decodes s) where
+module _ (row : Row) (s : State) (latch : List ℕ) {t r : State} {cells identification counts : List ℕ} {high d : Bool} (ed : d ≡ decodes s) where
   pub clock-up : {m : List ℕ} → high ≡ true → t ≡ risen row (d && not (s .pins .c)) s → m ≡ risenLatch row (d && not (s .pins .c)) s latch
-      → r ≡ settled (withPins (pinsAfter (Event.Clock true) (t .pins)) t) → worldOf r cells identification m ≡ step row (Event.Clock high) (worldOf s cells identification latch)
+      → r ≡ settled (withPins (pinsAfter (Event.Clock true) (t .pins)) t) → worldOf r cells identification m counts ≡ step row (Event.Clock high) (worldOf s cells identification latch counts)
   unfolding step react risen
   clock-up h et em er = rw (h, er, em, et, ed)
 
   pub clock-down : high ≡ false → t ≡ fallen row (d && s .pins .c) s cells identification
-      → r ≡ settled (withPins (pinsAfter (Event.Clock false) (t .pins)) t) → worldOf r cells identification latch ≡ step row (Event.Clock high) (worldOf s cells identification latch)
+      → r ≡ settled (withPins (pinsAfter (Event.Clock false) (t .pins)) t) → worldOf r cells identification latch counts ≡ step row (Event.Clock high) (worldOf s cells identification latch counts)
   unfolding step react fallen
   clock-down h et er = rw (h, er, et, ed)
 
 -- Events that touch no list.
-module _ (row : Row) (s : State) {r : State} {cells identification latch : List ℕ} where
-  beside : (e : Event) → (step row e (worldOf s cells identification latch) ≡ withState (stepAlone row e s) (worldOf s cells identification latch)) → r ≡ stepAlone row e s
-      → worldOf r cells identification latch ≡ step row e (worldOf s cells identification latch)
-  beside e f er = ap (λ (t : State). worldOf t cells identification latch) er ∙ sym f
+module _ (row : Row) (s : State) {r : State} {cells identification latch counts : List ℕ} where
+  beside : (e : Event) → (step row e (worldOf s cells identification latch counts) ≡ withState (stepAlone row e s) (worldOf s cells identification latch counts)) → r ≡ stepAlone row e s
+      → worldOf r cells identification latch counts ≡ step row e (worldOf s cells identification latch counts)
+  beside e f er = ap (λ (t : State). worldOf t cells identification latch counts) er ∙ sym f
 
-  pub data-alone : (b : Bool) → r ≡ stepAlone row (Event.Data b) s → worldOf r cells identification latch ≡ step row (Event.Data b) (worldOf s cells identification latch)
+  pub data-alone : (b : Bool) → r ≡ stepAlone row (Event.Data b) s → worldOf r cells identification latch counts ≡ step row (Event.Data b) (worldOf s cells identification latch counts)
   unfolding step react
   data-alone b er = beside (Event.Data b) refl er
 
-  pub select-alone : (b : Bool) → r ≡ stepAlone row (Event.Select b) s → worldOf r cells identification latch ≡ step row (Event.Select b) (worldOf s cells identification latch)
+  pub select-alone : (b : Bool) → r ≡ stepAlone row (Event.Select b) s → worldOf r cells identification latch counts ≡ step row (Event.Select b) (worldOf s cells identification latch counts)
   unfolding step react
   select-alone true er = beside (Event.Select true) refl er
   select-alone false er = beside (Event.Select false) refl er
 
-  pub hold-alone : (b : Bool) → r ≡ stepAlone row (Event.Hold b) s → worldOf r cells identification latch ≡ step row (Event.Hold b) (worldOf s cells identification latch)
+  pub hold-alone : (b : Bool) → r ≡ stepAlone row (Event.Hold b) s → worldOf r cells identification latch counts ≡ step row (Event.Hold b) (worldOf s cells identification latch counts)
   unfolding step react
   hold-alone b er = beside (Event.Hold b) refl er
 
-  pub protect-alone : (b : Bool) → r ≡ stepAlone row (Event.Protect b) s → worldOf r cells identification latch ≡ step row (Event.Protect b) (worldOf s cells identification latch)
+  pub protect-alone : (b : Bool) → r ≡ stepAlone row (Event.Protect b) s → worldOf r cells identification latch counts ≡ step row (Event.Protect b) (worldOf s cells identification latch counts)
   unfolding step react
   protect-alone true er = beside (Event.Protect true) refl er
   protect-alone false er = beside (Event.Protect false) refl er
 
-  pub power-alone : r ≡ stepAlone row Event.Power s → worldOf r cells identification latch ≡ step row Event.Power (worldOf s cells identification latch)
+  pub power-alone : r ≡ stepAlone row Event.Power s → worldOf r cells identification latch counts ≡ step row Event.Power (worldOf s cells identification latch counts)
   unfolding step react
   power-alone er = beside Event.Power refl er
 
@@ -117,3 +117,11 @@ module _ (row : Row) (w : World) {b : Bool} (e : b ≡ busy (w .state)) where
 
   pub power-taken : b ≡ false → 0 ≡ refusal row Event.Power w
   power-taken h = rw (← e, h)
+
+module _ (row : Row) (w : World) (time : ℕ) {b : Bool}
+    (e : b ≡ (ends time (w .state) && changes (w .state .cycle .kind) .cells && isMiscounted row (w .state .place .start) (w .cells) (w .counts))) where
+  pub wait-refused : b ≡ true → 15 ≡ refusal row (Event.Wait time) w
+  wait-refused h = rw (← e, h)
+
+  pub wait-taken : b ≡ false → 0 ≡ refusal row (Event.Wait time) w
+  wait-taken h = rw (← e, h)

@@ -7,4 +7,4 @@ use Rattle.rules.specs.World.{worldOf}
 use Rattle.rules.specs.Event.{step}
 
 abbrev pub stepAlone : Row → Event → State → State
-stepAlone row e s = step row e (worldOf s [] [] []) .state
+stepAlone row e s = step row e (worldOf s [] [] [] []) .state

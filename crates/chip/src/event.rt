@@ -1,15 +1,16 @@
 // What each event does: its pin, what it does besides, and the hold rule after it.
 
-ghost use Prim.Native.Nat.{_+_, _<_};
+ghost use Prim.Native.Nat.{ℕ, _+_, _<_};
 ghost use mathlib.Core.Path.{_≡_};
 ghost use mathlib.Core.Bool.{true, false};
+ghost use mathlib.Core.List.{List};
 ghost use lib.ListN.{length};
-ghost use Rattle.rules.specs.World.{World, worldOf, withState};
-ghost use Rattle.rules.specs.Device.{Widths};
+ghost use Rattle.rules.specs.World.{worldOf};
+ghost use Rattle.rules.specs.Device.{Widths, pageCount};
 ghost use Rattle.rules.specs.Event.{selected, deselected, decodes, settled, step, refusal, answer};
 ghost use Rattle.rules.specs.Trace.{answerByte};
 ghost use Rattle.rules.specs.Judge.{storable};
-ghost use Rattle.rules.specs.Sound.{SoundInput, Sound, Lent};
+ghost use Rattle.rules.specs.Sound.{SoundInput, SoundCycle, Sound, Lent};
 ghost use Rattle.chip.specs.Alone.{stepAlone};
 use rules::Command;
 use rules::Event;
@@ -169,7 +170,7 @@ pub fn power(row: Row, s: State) -> State
     settle(deselect(t))
 }
 
-// C is set.
+// C is set. It looks at no count, so that it does what the rules say whatever the counts are.
 pub fn clock(
     row: Row,
     s: State,
@@ -180,9 +181,9 @@ pub fn clock(
 ) -> State
     requires { ⌜ (Widths row) × (SoundInput (s .input)) × (s .place .address < row .cells) × (storable row (s .registers .status) ≡ s .registers .status) ⌝ }
     requires { ⌜ (length (now cells) ≡ row .cells) × (length (now identification) ≡ row .identification) × (length (now latch) ≡ row .page + row .page) ⌝ }
-    ensures { λ r. ⌜
-        worldOf r (now (cells .entry)) (now (identification .entry)) (now (latch .exit))
-        ≡ step row (Event.Clock high) (worldOf s (now (cells .entry)) (now (identification .entry)) (now (latch .entry))) ⌝ }
+    ensures { λ r. ⌜ (
+        (counts : List ℕ) → worldOf r (now (cells .entry)) (now (identification .entry)) (now (latch .exit)) counts
+        ≡ step row (Event.Clock high) (worldOf s (now (cells .entry)) (now (identification .entry)) (now (latch .entry)) counts)) ⌝ }
 {
     if high {
         let rises = is_decoding(s) & !s.pins.c;
@@ -203,12 +204,14 @@ pub fn step(
     cells: &mut [u8],
     identification: &mut [u8],
     latch: &mut [u8],
+    counts: &mut [u16],
     event: Event,
 ) -> State
-    requires { ⌜ (Widths row) × (Sound row (worldOf s (now cells) (now identification) (now latch))) × (Lent row (worldOf s (now cells) (now identification) (now latch))) ⌝ }
+    requires { ⌜ (Widths row) × (Sound row (worldOf s (now cells) (now identification) (now latch) (now counts))) ⌝ }
+    requires { ⌜ Lent row (worldOf s (now cells) (now identification) (now latch) (now counts)) ⌝ }
     ensures { λ r. ⌜
-        worldOf r (now (cells .exit)) (now (identification .exit)) (now (latch .exit))
-        ≡ step row event (worldOf s (now (cells .entry)) (now (identification .entry)) (now (latch .entry))) ⌝ }
+        worldOf r (now (cells .exit)) (now (identification .exit)) (now (latch .exit)) (now (counts .exit))
+        ≡ step row event (worldOf s (now (cells .entry)) (now (identification .entry)) (now (latch .entry)) (now (counts .entry))) ⌝ }
 {
     match event {
         Event::Clock(high) => clock(row, s, cells, identification, latch, high),
@@ -216,7 +219,15 @@ pub fn step(
         Event::Select(high) => chip_select(row, s, high),
         Event::Hold(high) => hold(row, s, high),
         Event::Protect(high) => write_protect(row, s, high),
-        Event::Wait(time) => settle(cycle::wait(row, s, cells, identification, latch, time)),
+        Event::Wait(time) => settle(cycle::wait(
+            row,
+            s,
+            cells,
+            identification,
+            latch,
+            counts,
+            time,
+        )),
         Event::Power => power(row, s),
     }
 }
@@ -237,9 +248,12 @@ pub fn answer(s: State) -> u8
     }
 }
 
-// What an event is refused with: 11 for power during a cycle, or 0. The state tells, whatever the device and its buffers.
-pub fn refused(event: Event, s: State) -> usize
-    ensures { λ r. ⌜ ((row : Row) (w : World) → r ≡ refusal row event (withState s w)) ⌝ }
+// What an event is refused with, asked before anything moves: 11 for power during a cycle, 15 for a wait that would end one on a page whose
+// count is wrong, or 0. Whatever the identification page and the latch hold.
+pub fn refused(row: Row, s: State, cells: &[u8], counts: &[u16], event: Event) -> usize
+    requires { ⌜ (Widths row) × (SoundCycle row (s .cycle .kind) (s .cycle .next) (s .place .start) (s .place .left)) ⌝ }
+    requires { ⌜ (length (now cells) ≡ row .cells) × (length (now counts) ≡ pageCount row) ⌝ }
+    ensures { λ r. ⌜ ((identification latch : List ℕ) → r ≡ refusal row event (worldOf s (now (cells .entry)) identification latch (now (counts .entry)))) ⌝ }
 {
     match event {
         Event::Clock(_) => 0,
@@ -247,7 +261,11 @@ pub fn refused(event: Event, s: State) -> usize
         Event::Select(_) => 0,
         Event::Hold(_) => 0,
         Event::Protect(_) => 0,
-        Event::Wait(_) => 0,
+        Event::Wait(time) => if cycle::ends_miscounted(row, s, cells, counts, time) {
+            15
+        } else {
+            0
+        },
         Event::Power => if receive::is_busy(s) { 11 } else { 0 },
     }
 }

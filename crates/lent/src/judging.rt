@@ -32,17 +32,26 @@ pub fn memory_refused(device: u8, cells: &[u8], identification: &[u8]) -> usize
     )
 }
 
-// 1 to 3, then 4: a latch of a wrong length. 0 otherwise.
-pub fn lent_refused(device: u8, cells: &[u8], identification: &[u8], latch: &[u8]) -> usize
-    ensures { λ r. ⌜ r ≡ lentRefusal device (now (cells .entry)) (now (identification .entry)) (now (latch .entry)) ⌝ }
+// 1 to 3, then 4: a latch of a wrong length; then 14: not a count for each page. 0 otherwise.
+pub fn lent_refused(
+    device: u8,
+    cells: &[u8],
+    identification: &[u8],
+    latch: &[u8],
+    counts: &[u16],
+) -> usize
+    ensures { λ r. ⌜ r ≡ lentRefusal device (now (cells .entry)) (now (identification .entry)) (now (latch .entry)) (now (counts .entry)) ⌝ }
 {
     let number = memory_refused(device, cells, identification);
     if number != 0 {
         return number;
     }
     let row = tables::row_of(device);
-    if latch.len() == row.page + row.page {
-        return 0;
+    if latch.len() != row.page + row.page {
+        return 4;
     }
-    4
+    if counts.len() != tables::page_count(row) {
+        return 14;
+    }
+    0
 }

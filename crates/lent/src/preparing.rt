@@ -84,12 +84,13 @@ pub fn prepare(
     cells: &mut [u8],
     identification: &mut [u8],
     latch: &mut [u8],
+    counts: &mut [u16],
 ) -> Prepared
     ensures { λ r. ⌜
-        preparedAs (r .number) (worldOf (r .state) (now (cells .exit)) (now (identification .exit)) (now (latch .exit)))
-        ≡ prepareOutcome device (now (cells .entry)) (now (identification .entry)) (now (latch .entry)) ⌝ }
+        preparedAs (r .number) (worldOf (r .state) (now (cells .exit)) (now (identification .exit)) (now (latch .exit)) (now (counts .exit)))
+        ≡ prepareOutcome device (now (cells .entry)) (now (identification .entry)) (now (latch .entry)) (now (counts .entry)) ⌝ }
 {
-    let number = lent_refused(device, cells, identification, latch);
+    let number = lent_refused(device, cells, identification, latch, counts);
     let state = prepared_state();
     if number != 0 {
         return Prepared {
@@ -101,6 +102,7 @@ pub fn prepare(
     memory::fill(cells, 0xFF);
     memory::prepare_identification(row, identification);
     memory::fill(latch, 0);
+    memory::counts::clear(counts);
     Prepared {
         number: 0,
         state: state,

@@ -31,7 +31,7 @@ flag-small true = omega arith
 flag-small false = omega arith
 
 -- The world.
-module _ (device : ℕ) (w : World) (n : ℕ) (en : n ≡ lentRefusal device (w .cells) (w .identification) (w .latch)) where
+module _ (device : ℕ) (w : World) (n : ℕ) (en : n ≡ lentRefusal device (w .cells) (w .identification) (w .latch) (w .counts)) where
   pub world-lent : (n ≡ 0 → ⊥) → n ≡ worldRefusal device w
   unfolding worldRefusal
   world-lent z = rw (← en, ne-eqb n 0 z)
@@ -63,14 +63,17 @@ module _ (device : ℕ) (w : World) (e : Event) (n : ℕ) (en : n ≡ worldRefus
   unfolding eventOutcome
   event-refused z = rw (← en, ne-eqb n 0 z, ne-eqb n 0 z)
 
-  module _ (z : n ≡ 0) (m : ℕ) (em : m ≡ refusal (rowOf device) e w) where
-    pub event-power : (m ≡ 0 → ⊥) → repliedAs m 2 w ≡ eventOutcome device w e
-    unfolding eventOutcome
-    event-power h = rw (← en, z, ← em, ne-eqb m 0 h)
+  module _ (z : n ≡ 0) (row : Row) (er : row ≡ rowOf device) (m : ℕ) (em : m ≡ refusal row e w) where
+    refusal-at : refusal (rowOf device) e w ≡ m
+    refusal-at = ap (λ (x : Row). refusal x e w) (sym er) ∙ sym em
 
-    pub event-done : (row : Row) (u : World) (a : ℕ) → m ≡ 0 → row ≡ rowOf device → u ≡ step row e w → a ≡ answerByte (answer (u .state)) → repliedAs 0 a u ≡ eventOutcome device w e
+    pub event-barred : (m ≡ 0 → ⊥) → repliedAs m 2 w ≡ eventOutcome device w e
     unfolding eventOutcome
-    event-done row u a h er eu ea = rw (← en, z, ← em, h, ea, eu, er)
+    event-barred h = rw (← en, z, refusal-at, ne-eqb m 0 h)
+
+    pub event-done : (u : World) (a : ℕ) → m ≡ 0 → u ≡ step row e w → a ≡ answerByte (answer (u .state)) → repliedAs 0 a u ≡ eventOutcome device w e
+    unfolding eventOutcome
+    event-done u a h eu ea = rw (← en, z, refusal-at, h, ea, eu, er)
 
 -- A trace.
 module _ (device : ℕ) (w : World) (t a : List ℕ) (limit n : ℕ) (en : n ≡ worldRefusal device w) where

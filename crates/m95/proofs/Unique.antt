@@ -10,15 +10,18 @@ use Rattle.rules.specs.World.{World}
 use Rattle.rules.specs.Device.{preparedState}
 use Rattle.rules.specs.Send.{statusByte}
 use Rattle.rules.specs.Trace.{Progress}
-use Rattle.rules.specs.Call.{worldRefusal, Prepared, prepareOutcome, storedIn, Loaded, loadOutcome, Replied, eventOutcome, runOutcome, Shown, viewOutcome}
+use Rattle.rules.specs.Call.{worldRefusal, Prepared, prepareOutcome, Counted, countOutcome, storedIn, Loaded, loadOutcome, Replied, eventOutcome, runOutcome, Shown, viewOutcome}
 
 -- What a contract of the form "the outcome is this function of the input" allows is one outcome.
 pub unique : {A : Type 0} {x y z : A} → x ≡ z → y ≡ z → x ≡ y
 unique e f = e ∙ sym f
 
-pub unique-prepare : {x y : Prepared} (device : ℕ) (cells identification latch : List ℕ) → x ≡ prepareOutcome device cells identification latch
-    → y ≡ prepareOutcome device cells identification latch → x ≡ y
-unique-prepare device cells identification latch = unique
+pub unique-prepare : {x y : Prepared} (device : ℕ) (cells identification latch counts : List ℕ) → x ≡ prepareOutcome device cells identification latch counts
+    → y ≡ prepareOutcome device cells identification latch counts → x ≡ y
+unique-prepare device cells identification latch counts = unique
+
+pub unique-count-pages : {x y : Counted} (device : ℕ) (cells counts : List ℕ) → x ≡ countOutcome device cells counts → y ≡ countOutcome device cells counts → x ≡ y
+unique-count-pages device cells counts = unique
 
 pub unique-load : {x y : Loaded} (device : ℕ) (stored : Stored) → x ≡ loadOutcome device stored → y ≡ loadOutcome device stored → x ≡ y
 unique-load device stored = unique

@@ -1,4 +1,4 @@
-// The library: prepare, load, event, run, what is stored, and a view of a page. Each call takes any input whatever, and its contract says its
+// The library: prepare, count, load, event, run, what is stored, and a view of a page. Each call takes any input whatever, and its contract says its
 // whole answer and the whole contents of every lent buffer as one function of the input: the outcomes of rules/specs/Call.antt.
 
 ghost use mathlib.Core.Path.{_≡_};
@@ -11,7 +11,8 @@ use rules::Event;
 use rules::State;
 use traces::records::Ran;
 
-// The calls that run nothing: preparing and what is stored, whose contracts stand in `lent`, and the view of a page, in `pages`.
+// The calls that run nothing: preparing, counting and what is stored, whose contracts stand in `lent`, and the view of a page, in `pages`.
+pub use lent::counting::count_pages;
 pub use lent::loading::load;
 pub use lent::loading::stored;
 pub use lent::preparing::Prepared;
@@ -26,17 +27,18 @@ pub struct Replied {
     pub state: State,
 }
 
-// 1 to 4 for what is lent, then 5: a state that is not sound, or a mark that is not 0 or 1.
+// 1 to 4 and 14 for what is lent, then 5: a state that is not sound, or a mark that is not 0 or 1.
 pub fn world_refused(
     device: u8,
     s: State,
     cells: &[u8],
     identification: &[u8],
     latch: &[u8],
+    counts: &[u16],
 ) -> usize
-    ensures { λ r. ⌜ r ≡ worldRefusal device (worldOf s (now (cells .entry)) (now (identification .entry)) (now (latch .entry))) ⌝ }
+    ensures { λ r. ⌜ r ≡ worldRefusal device (worldOf s (now (cells .entry)) (now (identification .entry)) (now (latch .entry)) (now (counts .entry))) ⌝ }
 {
-    let number = lent_refused(device, cells, identification, latch);
+    let number = lent_refused(device, cells, identification, latch, counts);
     if number != 0 {
         return number;
     }
@@ -54,13 +56,14 @@ pub fn event(
     cells: &mut [u8],
     identification: &mut [u8],
     latch: &mut [u8],
+    counts: &mut [u16],
     event: Event,
 ) -> Replied
     ensures { λ r. ⌜
-        repliedAs (r .number) (r .answer) (worldOf (r .state) (now (cells .exit)) (now (identification .exit)) (now (latch .exit)))
-        ≡ eventOutcome device (worldOf s (now (cells .entry)) (now (identification .entry)) (now (latch .entry))) event ⌝ }
+        repliedAs (r .number) (r .answer) (worldOf (r .state) (now (cells .exit)) (now (identification .exit)) (now (latch .exit)) (now (counts .exit)))
+        ≡ eventOutcome device (worldOf s (now (cells .entry)) (now (identification .entry)) (now (latch .entry)) (now (counts .entry))) event ⌝ }
 {
-    let number = world_refused(device, s, cells, identification, latch);
+    let number = world_refused(device, s, cells, identification, latch, counts);
     if number != 0 {
         return Replied {
             number: number,
@@ -68,7 +71,8 @@ pub fn event(
             state: s,
         };
     }
-    let refused = chip::event::refused(event, s);
+    let row = tables::row_of(device);
+    let refused = chip::event::refused(row, s, cells, counts, event);
     if refused != 0 {
         return Replied {
             number: refused,
@@ -76,8 +80,7 @@ pub fn event(
             state: s,
         };
     }
-    let row = tables::row_of(device);
-    let t = chip::event::step(row, s, cells, identification, latch, event);
+    let t = chip::event::step(row, s, cells, identification, latch, counts, event);
     let answer = chip::event::answer(t) as usize;
     Replied {
         number: 0,
@@ -93,15 +96,16 @@ pub fn run(
     cells: &mut [u8],
     identification: &mut [u8],
     latch: &mut [u8],
+    counts: &mut [u16],
     trace: &[u8],
     answers: &mut [u8],
     limit: usize,
 ) -> Ran
     ensures { λ r. ⌜
-        progressOf (r .number) (r .taken) (r .done) (worldOf (r .state) (now (cells .exit)) (now (identification .exit)) (now (latch .exit))) (now (answers .exit))
-        ≡ runOutcome device (worldOf s (now (cells .entry)) (now (identification .entry)) (now (latch .entry))) (now (trace .entry)) (now (answers .entry)) limit ⌝ }
+        progressOf (r .number) (r .taken) (r .done) (worldOf (r .state) (now (cells .exit)) (now (identification .exit)) (now (latch .exit)) (now (counts .exit))) (now (answers .exit))
+        ≡ runOutcome device (worldOf s (now (cells .entry)) (now (identification .entry)) (now (latch .entry)) (now (counts .entry))) (now (trace .entry)) (now (answers .entry)) limit ⌝ }
 {
-    let number = world_refused(device, s, cells, identification, latch);
+    let number = world_refused(device, s, cells, identification, latch, counts);
     if number != 0 {
         return Ran {
             number: number,
@@ -111,7 +115,17 @@ pub fn run(
         };
     }
     let row = tables::row_of(device);
-    traces::records::run_records(row, s, cells, identification, latch, trace, answers, limit)
+    traces::records::run_records(
+        row,
+        s,
+        cells,
+        identification,
+        latch,
+        counts,
+        trace,
+        answers,
+        limit,
+    )
 }
 
 // The byte that RDSR would send in a state, sound or not.

@@ -13,7 +13,7 @@ use Rattle.rules.specs.declared.Row.{Row}
 use Rattle.rules.specs.declared.State.{State}
 use Rattle.rules.specs.declared.Stored.{Stored}
 use Rattle.rules.specs.World.{if_then_else_, World, worldOf}
-use Rattle.rules.specs.Device.{isDevice, rowOf}
+use Rattle.rules.specs.Device.{isDevice, rowOf, pageCount}
 use Rattle.rules.specs.Send.{statusByte}
 use Rattle.rules.specs.Trace.{lengthOf, pinEvent, progressOf}
 use Rattle.rules.specs.Call as call
@@ -22,7 +22,7 @@ use Rattle.rules.proofs.Choice.{if-elim}
 use Rattle.m95.proofs.Calling.{fine}
 use Rattle.m95_c.proofs.Packing.{state-length}
 use Rattle.m95_c.specs.StateBytes.{isState, stateOf, noState, bytesOf}
-use Rattle.m95_c.specs.Left.{deviceOf, sizesAs, sizesOf, Buffers, buffersOf, preparedAs, prepareLeft, byteFor, loadedAs, loadLeft, eventRefusal}
+use Rattle.m95_c.specs.Left.{deviceOf, sizesAs, sizesOf, Buffers, buffersOf, worldWith, preparedAs, prepareLeft, byteFor, loadedAs, loadLeft, eventRefusal}
 use Rattle.m95_c.specs.Left.{eventOf, repliedAs, eventLeft, ranAs, runLeft, toldAs, statusLeft, keptAs, storedLeft, regionOf, partStart, placedAs, viewLeft}
 
 -- A number that fits a byte is kept, as `deviceOf` and `byteFor` have it; another gives way to what stands for none.
@@ -34,24 +34,24 @@ none-taken none n h = rw (lt-leb n 255 h)
 
 -- The sizes.
 module _ (n : ℕ) {d : ℕ} (ed : d ≡ deviceOf n) {row : Row} (er : row ≡ rowOf d) {t : Bool} (et : t ≡ isDevice d) where
-  pub sizes-told : t ≡ true → sizesAs (row .cells) (row .page) (row .identification) ≡ sizesOf n
-  sizes-told h = rw (← ed, ← et, h, er)
+  pub sizes-told : t ≡ true → {k : ℕ} → k ≡ pageCount row → sizesAs (row .cells) (row .page) (row .identification) k ≡ sizesOf n
+  sizes-told h ek = rw (← ed, ← et, h, ek, er)
 
-  pub sizes-none : t ≡ false → sizesAs 0 0 0 ≡ sizesOf n
+  pub sizes-none : t ≡ false → sizesAs 0 0 0 0 ≡ sizesOf n
   sizes-none h = rw (← ed, ← et, h)
 
 -- Preparing.
 module _ (n : ℕ) {d : ℕ} (ed : d ≡ deviceOf n) (b : Buffers) where
   pub prepare-roomless : {s : State} {m : ℕ} → (length (b .state) ≡ 36 → ⊥) → s ≡ noState
-      → m ≡ worldRefusal d (worldOf s (b .cells) (b .identification) (b .latch))
+      → m ≡ worldRefusal d (worldWith s b)
       → preparedAs m b ≡ prepareLeft n b
   unfolding prepareLeft
   prepare-roomless h es em = rw (em, es, ed, ne-eqb (length (b .state)) 36 h)
 
-  pub prepare-room : {s : State} {m : ℕ} {bytes c i l : List ℕ} → length (b .state) ≡ 36
-      → call.preparedAs m (worldOf s c i l) ≡ prepareOutcome d (b .cells) (b .identification) (b .latch)
+  pub prepare-room : {s : State} {m : ℕ} {bytes c i l k : List ℕ} → length (b .state) ≡ 36
+      → call.preparedAs m (worldOf s c i l k) ≡ prepareOutcome d (b .cells) (b .identification) (b .latch) (b .counts)
       → bytes ≡ bytesOf s
-      → preparedAs m (buffersOf bytes c i l) ≡ prepareLeft n b
+      → preparedAs m (buffersOf bytes c i l k) ≡ prepareLeft n b
   unfolding prepareLeft
   prepare-room h eo es = rw (eq-eqb (length (b .state)) 36 h, ← ed, ← eo, es)
 
@@ -104,17 +104,17 @@ module _ (kind value : ℕ) where
       if-elim (λ (x : ℕ). x ≡ 0 → value ≤ 9) (ltb 9 value) (λ _ k. absurd (omega (arith, k))) (λ k _. ltb-false 9 value k) (rw (h) at e)
 
 -- A device whose buffers are not refused has a state of the right length.
-pub state-long : (d : ℕ) {s : State} (b c i l : List ℕ) {m : ℕ} → s ≡ stateOf b → m ≡ worldRefusal d (worldOf s c i l) → m ≡ 0 → length b ≡ 36
+pub state-long : (d : ℕ) {s : State} (b : Buffers) {m : ℕ} → s ≡ stateOf (b .state) → m ≡ worldRefusal d (worldWith s b) → m ≡ 0 → length (b .state) ≡ 36
 unfolding stateOf
-state-long d {s} b c i l es em z =
-    whole (subst (λ (x : State). x .input .bits ≤ 7) es (fine d (worldOf s c i l) (sym em ∙ z) .0 .unsettled .input .few))
+state-long d {s} b es em z =
+    whole (subst (λ (x : State). x .input .bits ≤ 7) es (fine d (worldWith s b) (sym em ∙ z) .0 .unsettled .input .few))
   where
-    whole : stateOf b .input .bits ≤ 7 → length b ≡ 36
-    whole = if-elim (λ (x : State). x .input .bits ≤ 7 → length b ≡ 36) (isState b) (λ h _. state-length b h) (λ _ k. absurd (omega (arith, k)))
+    whole : stateOf (b .state) .input .bits ≤ 7 → length (b .state) ≡ 36
+    whole = if-elim (λ (x : State). x .input .bits ≤ 7 → length (b .state) ≡ 36) (isState (b .state)) (λ h _. state-length (b .state) h) (λ _ k. absurd (omega (arith, k)))
 
 -- An event.
 module _ (n : ℕ) {d : ℕ} (ed : d ≡ deviceOf n) (b : Buffers) {s : State} (es : s ≡ stateOf (b .state))
-    {m : ℕ} (em : m ≡ worldRefusal d (worldOf s (b .cells) (b .identification) (b .latch))) (kind value : ℕ) where
+    {m : ℕ} (em : m ≡ worldRefusal d (worldWith s b)) (kind value : ℕ) where
   pub event-whole : (m ≡ 0 → ⊥) → repliedAs m 2 b ≡ eventLeft n b kind value
   unfolding eventLeft
   event-whole h = rw (← ed, ← es, ← em, ne-eqb m 0 h, ne-eqb m 0 h)
@@ -124,33 +124,33 @@ module _ (n : ℕ) {d : ℕ} (ed : d ≡ deviceOf n) (b : Buffers) {s : State} (
     unfolding eventLeft
     event-bad h = rw (← ed, ← es, ← em, z, ← ek, ne-eqb k 0 h, ne-eqb k 0 h)
 
-    module _ (zk : k ≡ 0) {e : Event} (ee : e ≡ eventOf kind value) {r a : ℕ} {t : State} {c i l : List ℕ}
-        (eo : call.repliedAs r a (worldOf t c i l) ≡ eventOutcome d (worldOf s (b .cells) (b .identification) (b .latch)) e) where
-      kept : (r ≡ 0 → ⊥) → worldOf t c i l ≡ worldOf s (b .cells) (b .identification) (b .latch)
+    module _ (zk : k ≡ 0) {e : Event} (ee : e ≡ eventOf kind value) {r a : ℕ} {t : State} {c i l j : List ℕ}
+        (eo : call.repliedAs r a (worldOf t c i l j) ≡ eventOutcome d (worldWith s b) e) where
+      kept : (r ≡ 0 → ⊥) → worldOf t c i l j ≡ worldWith s b
       unfolding eventOutcome
       kept h = ap (λ (o : call.Replied). o .world) eo ∙ rw (← ap (λ (o : call.Replied). o .number) eo, ne-eqb r 0 h)
 
-      pub event-refused : (r ≡ 0 → ⊥) → repliedAs r 2 (buffersOf (b .state) c i l) ≡ eventLeft n b kind value
+      pub event-refused : (r ≡ 0 → ⊥) → repliedAs r 2 (buffersOf (b .state) c i l j) ≡ eventLeft n b kind value
       unfolding eventLeft
       event-refused h =
           rw (← ed, ← es, ← em, z, ← ek, zk, ← ee, ← eo, ne-eqb r 0 h)
-          (ap (λ (w : World). repliedAs r 2 (buffersOf (b .state) (w .cells) (w .identification) (w .latch))) (kept h))
+          (ap (λ (w : World). repliedAs r 2 (buffersOf (b .state) (w .cells) (w .identification) (w .latch) (w .counts))) (kept h))
 
-      pub event-done : r ≡ 0 → {bytes : List ℕ} → bytes ≡ bytesOf t → repliedAs 0 a (buffersOf bytes c i l) ≡ eventLeft n b kind value
+      pub event-done : r ≡ 0 → {bytes : List ℕ} → bytes ≡ bytesOf t → repliedAs 0 a (buffersOf bytes c i l j) ≡ eventLeft n b kind value
       unfolding eventLeft
       event-done h eb = rw (← ed, ← es, ← em, z, ← ek, zk, ← ee, ← eo, h, eb)
 
 -- A trace.
 module _ (n : ℕ) {d : ℕ} (ed : d ≡ deviceOf n) (b : Buffers) {s : State} (es : s ≡ stateOf (b .state))
-    {m : ℕ} (em : m ≡ worldRefusal d (worldOf s (b .cells) (b .identification) (b .latch))) (trace answers : List ℕ) (limit : ℕ) where
+    {m : ℕ} (em : m ≡ worldRefusal d (worldWith s b)) (trace answers : List ℕ) (limit : ℕ) where
   pub run-whole : (m ≡ 0 → ⊥) → ranAs m 0 0 answers b ≡ runLeft n b trace answers limit
   unfolding runLeft
   run-whole h = rw (← ed, ← es, ← em, ne-eqb m 0 h)
 
-  pub run-left : m ≡ 0 → {r taken done : ℕ} {t : State} {c i l after bytes : List ℕ}
-      → progressOf r taken done (worldOf t c i l) after ≡ runOutcome d (worldOf s (b .cells) (b .identification) (b .latch)) trace answers limit
+  pub run-left : m ≡ 0 → {r taken done : ℕ} {t : State} {c i l k after bytes : List ℕ}
+      → progressOf r taken done (worldOf t c i l k) after ≡ runOutcome d (worldWith s b) trace answers limit
       → bytes ≡ bytesOf t
-      → ranAs r taken done after (buffersOf bytes c i l) ≡ runLeft n b trace answers limit
+      → ranAs r taken done after (buffersOf bytes c i l k) ≡ runLeft n b trace answers limit
   unfolding runLeft
   run-left z eo eb = rw (← ed, ← es, ← em, z, ← eo, eb)
 

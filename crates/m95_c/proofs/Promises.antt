@@ -130,7 +130,7 @@ read-back device w z =
     left false e = omega (arith, fine device w z .0 .unsettled .cycle .rests e)
 
 pub no-state-refused : (device : ℕ) (b : Buffers) → isState (b .state) ≡ false
-    → lentRefusal (deviceOf device) (b .cells) (b .identification) (b .latch) ≡ 0 → buffersRefusal device b ≡ 5
+    → lentRefusal (deviceOf device) (b .cells) (b .identification) (b .latch) (b .counts) ≡ 0 → buffersRefusal device b ≡ 5
 unfolding worldRefusal stateOf isSound clauses
 no-state-refused device b none z = rw (z, none)
 

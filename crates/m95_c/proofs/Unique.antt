@@ -2,9 +2,10 @@
 use Prim.Native.Nat.{ℕ}
 use mathlib.Core.Path.{_≡_}
 use mathlib.Core.List.{List}
+use Rattle.rules.specs.Call.{Counted, countOutcome}
 use Rattle.m95.proofs.Unique.{unique}
 use Rattle.m95_c.specs.StateBytes.{version}
-use Rattle.m95_c.specs.Left.{sizesOf, Buffers, buffersRefusal, Prepared, prepareLeft, Loaded, loadLeft, Kept, storedLeft}
+use Rattle.m95_c.specs.Left.{deviceOf, sizesOf, Buffers, buffersRefusal, Prepared, prepareLeft, Loaded, loadLeft, Kept, storedLeft}
 use Rattle.m95_c.specs.Left.{Replied, eventLeft, Ran, runLeft, Told, statusLeft, Placed, viewLeft}
 
 pub unique-cells : {x y : ℕ} (device : ℕ) → x ≡ sizesOf device .cells → y ≡ sizesOf device .cells → x ≡ y
@@ -15,6 +16,12 @@ unique-page device e f = unique e f
 
 pub unique-identification : {x y : ℕ} (device : ℕ) → x ≡ sizesOf device .identification → y ≡ sizesOf device .identification → x ≡ y
 unique-identification device e f = unique e f
+
+pub unique-pages : {x y : ℕ} (device : ℕ) → x ≡ sizesOf device .pages → y ≡ sizesOf device .pages → x ≡ y
+unique-pages device e f = unique e f
+
+pub unique-count-pages : {x y : Counted} (device : ℕ) (cells counts : List ℕ) → x ≡ countOutcome (deviceOf device) cells counts → y ≡ countOutcome (deviceOf device) cells counts → x ≡ y
+unique-count-pages device cells counts = unique
 
 pub unique-refusal : {x y : ℕ} (device : ℕ) (b : Buffers) → x ≡ buffersRefusal device b → y ≡ buffersRefusal device b → x ≡ y
 unique-refusal device b = unique

@@ -3,8 +3,9 @@ use Rattle.rules.specs.World.{ℕ, _-_, _%_, Bool, not, _&&_, List, length, eqb
 use Rattle.rules.specs.declared.Event.{Event}
 use Rattle.rules.specs.declared.Region.{Region}
 use Rattle.rules.specs.declared.Row.{Row}
+use Rattle.rules.specs.declared.State.{State}
 use Rattle.rules.specs.declared.Stored.{Stored}
-use Rattle.rules.specs.Device.{isDevice, rowOf}
+use Rattle.rules.specs.Device.{isDevice, rowOf, pageCount}
 use Rattle.rules.specs.Send.{statusByte}
 use Rattle.rules.specs.Trace.{lengthOf, pinEvent}
 use Rattle.rules.specs.Call.{memoryRefusal, worldRefusal, prepareOutcome, storedAs, storedIn, loadOutcome, eventOutcome, runOutcome, viewOutcome}
@@ -15,34 +16,42 @@ use Rattle.m95_c.specs.StateBytes.{stateLength, isState, stateOf, stateA
 abbrev pub deviceOf : ℕ → ℕ
 deviceOf n = if leb n 255 then n else 0
 
--- How many cells a device has, how many bytes a page, and how many its identification page: all 0 for a number that is no device's.
-abbrev pub sizesAs : ℕ → ℕ → ℕ → Sizes
-sizesAs cells page identification = record { cells = cells; page = page; identification = identification }
+-- How many cells a device has, how many bytes a page, how many its identification page, and how many pages the cells make: all 0 for a number
+-- that is no device's.
+abbrev pub sizesAs : ℕ → ℕ → ℕ → ℕ → Sizes
+sizesAs cells page identification pages = record { cells = cells; page = page; identification = identification; pages = pages }
 
 abbrev pub sizesOf : ℕ → Sizes
-sizesOf n = let row = rowOf (deviceOf n) in if isDevice (deviceOf n) then sizesAs (row .cells) (row .page) (row .identification) else sizesAs 0 0 0
+sizesOf n =
+    let row = rowOf (deviceOf n) in
+    if isDevice (deviceOf n) then sizesAs (row .cells) (row .page) (row .identification) (pageCount row) else sizesAs 0 0 0 0
 
--- The buffers lent to a call: the state's bytes, and those of the device.
+-- The buffers lent to a call: the state's bytes, those of the device, and its counts.
 pub record Buffers : Type 0 where
   pub state : List ℕ
   pub cells : List ℕ
   pub identification : List ℕ
   pub latch : List ℕ
+  pub counts : List ℕ
 
-abbrev pub buffersOf : List ℕ → List ℕ → List ℕ → List ℕ → Buffers
-buffersOf state cells identification latch = record { state = state; cells = cells; identification = identification; latch = latch }
+abbrev pub buffersOf : List ℕ → List ℕ → List ℕ → List ℕ → List ℕ → Buffers
+buffersOf state cells identification latch counts = record { state = state; cells = cells; identification = identification; latch = latch; counts = counts }
+
+-- The device's buffers in a world of some state.
+abbrev pub worldWith : State → Buffers → World
+worldWith s b = worldOf s (b .cells) (b .identification) (b .latch) (b .counts)
 
 abbrev pub worldIn : Buffers → World
-worldIn b = worldOf (stateOf (b .state)) (b .cells) (b .identification) (b .latch)
+worldIn b = worldWith (stateOf (b .state)) b
 
 abbrev pub buffersWith : World → Buffers
-buffersWith w = buffersOf (bytesOf (w .state)) (w .cells) (w .identification) (w .latch)
+buffersWith w = buffersOf (bytesOf (w .state)) (w .cells) (w .identification) (w .latch) (w .counts)
 
--- 1 to 5, or 0: what an event or a trace is judged by first.
+-- 1 to 4, 14 or 5, or 0: what an event or a trace is judged by first.
 abbrev pub buffersRefusal : ℕ → Buffers → ℕ
 buffersRefusal device b = worldRefusal (deviceOf device) (worldIn b)
 
--- Preparing. The state's room is a state or it is not by its length alone: 1 to 4 come first, then 5, and then nothing is prepared.
+-- Preparing. The state's room is a state or it is not by its length alone: 1 to 4 and 14 come first, then 5, and then nothing is prepared.
 pub record Prepared : Type 0 where
   pub number : ℕ
   pub buffers : Buffers
@@ -52,10 +61,9 @@ preparedAs number b = record { number = number; buffers = b }
 
 unfoldable pub prepareLeft : ℕ → Buffers → Prepared
 prepareLeft device b =
-    let o = prepareOutcome (deviceOf device) (b .cells) (b .identification) (b .latch) in
-    let none = worldOf noState (b .cells) (b .identification) (b .latch) in
+    let o = prepareOutcome (deviceOf device) (b .cells) (b .identification) (b .latch) (b .counts) in
     if eqb (length (b .state)) stateLength then preparedAs (o .number) (buffersWith (o .world))
-    else preparedAs (worldRefusal (deviceOf device) none) b
+    else preparedAs (worldRefusal (deviceOf device) (worldWith noState b)) b
 
 -- Loading: 1, then 5 for what is handed in or for a room of a wrong length. Refused it leaves the room. A number above a byte's counts as
 -- 255: no device has these bits, and no lock is so.
@@ -95,7 +103,7 @@ pub record Replied : Type 0 where
 abbrev pub repliedAs : ℕ → ℕ → Buffers → Replied
 repliedAs number answer b = record { number = number; answer = answer; buffers = b }
 
--- 1 to 5, then 7 and 9, then 11. A refused event answers 2 and changes nothing.
+-- 1 to 4, 14 and 5, then 7 and 9, then 11 or 15. A refused event answers 2 and changes nothing.
 unfoldable pub eventLeft : ℕ → Buffers → ℕ → ℕ → Replied
 eventLeft device b kind value =
     let o = eventOutcome (deviceOf device) (worldIn b) (eventOf kind value) in
@@ -106,7 +114,7 @@ eventLeft device b kind value =
     if eqb n 0 then repliedAs 0 (o .answer) (buffersWith (o .world))
     else repliedAs n 2 b
 
--- A trace. Refused with 1 to 5 it changes nothing; else it leaves what the library's run leaves.
+-- A trace. Refused with 1 to 4, 14 or 5 it changes nothing; else it leaves what the library's run leaves.
 pub record Ran : Type 0 where
   pub number : ℕ
   pub taken : ℕ

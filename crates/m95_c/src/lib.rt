@@ -3,8 +3,9 @@
 // size, the status, what is stored or a page are in `showing`.
 
 ghost use mathlib.Core.Path.{_≡_};
+ghost use Rattle.rules.specs.Call.{countedAs, countOutcome};
 ghost use Rattle.m95_c.specs.StateBytes.{version};
-ghost use Rattle.m95_c.specs.Left.{buffersOf, buffersRefusal, preparedAs, prepareLeft, loadedAs, loadLeft, repliedAs, eventLeft, ranAs, runLeft};
+ghost use Rattle.m95_c.specs.Left.{deviceOf, buffersOf, buffersRefusal, preparedAs, prepareLeft, loadedAs, loadLeft, repliedAs, eventLeft, ranAs, runLeft};
 use numbers::byte_for;
 use numbers::device_of;
 use numbers::event_of;
@@ -27,7 +28,7 @@ pub extern "C" fn m95_version() -> usize
     1
 }
 
-// What a device's buffers are refused with, 1 to 5, or 0.
+// What a device's buffers are refused with, 1 to 4, 14 or 5, or 0.
 #[no_mangle]
 pub extern "C" fn m95_refusal(
     device: usize,
@@ -35,8 +36,9 @@ pub extern "C" fn m95_refusal(
     cells: &[u8],
     identification: &[u8],
     latch: &[u8],
+    counts: &[u16],
 ) -> usize
-    ensures { λ r. ⌜ r ≡ buffersRefusal device (buffersOf (now (state .entry)) (now (cells .entry)) (now (identification .entry)) (now (latch .entry))) ⌝ }
+    ensures { λ r. ⌜ r ≡ buffersRefusal device (buffersOf (now (state .entry)) (now (cells .entry)) (now (identification .entry)) (now (latch .entry)) (now (counts .entry))) ⌝ }
 {
     m95::world_refused(
         device_of(device),
@@ -44,6 +46,7 @@ pub extern "C" fn m95_refusal(
         cells,
         identification,
         latch,
+        counts,
     )
 }
 
@@ -55,18 +58,27 @@ pub extern "C" fn m95_prepare(
     cells: &mut [u8],
     identification: &mut [u8],
     latch: &mut [u8],
+    counts: &mut [u16],
 ) -> usize
     ensures { λ r. ⌜
-        preparedAs r (buffersOf (now (state .exit)) (now (cells .exit)) (now (identification .exit)) (now (latch .exit)))
-        ≡ prepareLeft device (buffersOf (now (state .entry)) (now (cells .entry)) (now (identification .entry)) (now (latch .entry))) ⌝ }
+        preparedAs r (buffersOf (now (state .exit)) (now (cells .exit)) (now (identification .exit)) (now (latch .exit)) (now (counts .exit)))
+        ≡ prepareLeft device (buffersOf (now (state .entry)) (now (cells .entry)) (now (identification .entry)) (now (latch .entry)) (now (counts .entry))) ⌝ }
 {
     let number = device_of(device);
     if state.len() != 36 {
-        return m95::world_refused(number, no_state(), cells, identification, latch);
+        return m95::world_refused(number, no_state(), cells, identification, latch, counts);
     }
-    let prepared = m95::prepare(number, cells, identification, latch);
+    let prepared = m95::prepare(number, cells, identification, latch, counts);
     put_state(state, prepared.state);
     prepared.number
+}
+
+// Counts a device's pages afresh from its cells.
+#[no_mangle]
+pub extern "C" fn m95_count_pages(device: usize, cells: &[u8], counts: &mut [u16]) -> usize
+    ensures { λ r. ⌜ countedAs r (now (counts .exit)) ≡ countOutcome (deviceOf device) (now (cells .entry)) (now (counts .entry)) ⌝ }
+{
+    m95::count_pages(device_of(device), cells, counts)
 }
 
 // Puts the state of a device that has just got its power, with what it has stored.
@@ -97,26 +109,28 @@ pub extern "C" fn m95_event(
     cells: &mut [u8],
     identification: &mut [u8],
     latch: &mut [u8],
+    counts: &mut [u16],
     kind: usize,
     value: usize,
     answer: &mut usize,
 ) -> usize
     ensures { λ r. ⌜
-        repliedAs r (now (answer .exit)) (buffersOf (now (state .exit)) (now (cells .exit)) (now (identification .exit)) (now (latch .exit)))
-        ≡ eventLeft device (buffersOf (now (state .entry)) (now (cells .entry)) (now (identification .entry)) (now (latch .entry))) kind value ⌝ }
+        repliedAs r (now (answer .exit)) (buffersOf (now (state .exit)) (now (cells .exit)) (now (identification .exit)) (now (latch .exit)) (now (counts .exit)))
+        ≡ eventLeft device (buffersOf (now (state .entry)) (now (cells .entry)) (now (identification .entry)) (now (latch .entry)) (now (counts .entry))) kind value ⌝ }
 {
     let d = device_of(device);
     let s = state_of(state);
     let bad = event_refused(kind, value);
     *answer = 2;
-    let number = m95::world_refused(d, s, cells, identification, latch);
+    let number = m95::world_refused(d, s, cells, identification, latch, counts);
     if number != 0 {
         return number;
     }
     if bad != 0 {
         return bad;
     }
-    let reply = m95::event(d, s, cells, identification, latch, event_of(kind, value));
+    let event = event_of(kind, value);
+    let reply = m95::event(d, s, cells, identification, latch, counts, event);
     if reply.number != 0 {
         return reply.number;
     }
@@ -133,6 +147,7 @@ pub extern "C" fn m95_run(
     cells: &mut [u8],
     identification: &mut [u8],
     latch: &mut [u8],
+    counts: &mut [u16],
     trace: &[u8],
     answers: &mut [u8],
     limit: usize,
@@ -140,18 +155,29 @@ pub extern "C" fn m95_run(
     done: &mut usize,
 ) -> usize
     ensures { λ r. ⌜
-        ranAs r (now (taken .exit)) (now (done .exit)) (now (answers .exit)) (buffersOf (now (state .exit)) (now (cells .exit)) (now (identification .exit)) (now (latch .exit)))
-        ≡ runLeft device (buffersOf (now (state .entry)) (now (cells .entry)) (now (identification .entry)) (now (latch .entry))) (now (trace .entry)) (now (answers .entry)) limit ⌝ }
+        ranAs r (now (taken .exit)) (now (done .exit)) (now (answers .exit)) (buffersOf (now (state .exit)) (now (cells .exit)) (now (identification .exit)) (now (latch .exit)) (now (counts .exit)))
+        ≡ runLeft device (buffersOf (now (state .entry)) (now (cells .entry)) (now (identification .entry)) (now (latch .entry)) (now (counts .entry)))
+        (now (trace .entry)) (now (answers .entry)) limit ⌝ }
 {
     let d = device_of(device);
     let s = state_of(state);
     *taken = 0;
     *done = 0;
-    let number = m95::world_refused(d, s, cells, identification, latch);
+    let number = m95::world_refused(d, s, cells, identification, latch, counts);
     if number != 0 {
         return number;
     }
-    let ran = m95::run(d, s, cells, identification, latch, trace, answers, limit);
+    let ran = m95::run(
+        d,
+        s,
+        cells,
+        identification,
+        latch,
+        counts,
+        trace,
+        answers,
+        limit,
+    );
     put_state(state, ran.state);
     *taken = ran.taken;
     *done = ran.done;

@@ -10,11 +10,12 @@ use crate::reading::state_of;
 use lent::judging::memory_refused;
 use rules::Region;
 
-// How many cells a device has, how many bytes a page of it, and how many its identification page, which may have none.
+// How many cells a device has, how many bytes a page of it, how many its identification page, which may have none, and how many pages.
 pub struct Sizes {
     pub cells: usize,
     pub page: usize,
     pub identification: usize,
+    pub pages: usize,
 }
 
 // A device's sizes; all 0 where there is no such device.
@@ -28,12 +29,14 @@ fn sizes_of(device: usize) -> Sizes
             cells: row.cells,
             page: row.page,
             identification: row.identification,
+            pages: tables::page_count(row),
         };
     }
     Sizes {
         cells: 0,
         page: 0,
         identification: 0,
+        pages: 0,
     }
 }
 
@@ -59,6 +62,14 @@ pub extern "C" fn m95_identification(device: usize) -> usize
 {
     let sizes = sizes_of(device);
     sizes.identification
+}
+
+#[no_mangle]
+pub extern "C" fn m95_pages(device: usize) -> usize
+    ensures { λ r. ⌜ r ≡ sizesOf device .pages ⌝ }
+{
+    let sizes = sizes_of(device);
+    sizes.pages
 }
 
 // The byte that RDSR would send in a state, sound or not.

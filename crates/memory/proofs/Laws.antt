@@ -1,5 +1,5 @@
 -- One step of each definition that a loop follows, and the start of a prepared identification page.
-use Prim.Native.Nat.{ℕ, suc, _+_, _-_, _≤_, _<_}
+use Prim.Native.Nat.{ℕ, suc, _+_, _-_, _*_, _≤_, _<_}
 use mathlib.Core.Path.{_≡_, refl, sym, ap, _∙_, subst}
 use mathlib.Core.Bool.{true, false}
 use mathlib.Core.List.{List, _∷_, _++_, append-nil}
@@ -13,7 +13,8 @@ use Rattle.rules.specs.declared.Row.{Row}
 use Rattle.rules.specs.Device.{code}
 use Rattle.rules.specs.Receive.{cleared}
 use Rattle.rules.specs.Sound.{areMarks}
-use Rattle.rules.specs.Cycle.{written}
+use Rattle.rules.specs.Cycle.{written, filled, recounted}
+use Rattle.rules.specs.Call.{recountedTo}
 
 module _ (page : ℕ) (latch : List ℕ) (start : ℕ) (bytes : List ℕ) where
   pub written-set : (n : ℕ) → getD latch (page + n) 0 ≡ 1 → written (n + 1) page latch start bytes ≡ set (written n page latch start bytes) (start + n) (getD latch n 0)
@@ -23,6 +24,21 @@ module _ (page : ℕ) (latch : List ℕ) (start : ℕ) (bytes : List ℕ) where
   pub written-keep : (n : ℕ) → (getD latch (page + n) 0 ≡ 1 → ⊥) → written (n + 1) page latch start bytes ≡ written n page latch start bytes
   unfolding written
   written-keep n h = rw (add-one n, ne-eqb _ _ h)
+
+-- Counting one place more.
+module _ (cells : List ℕ) (a n : ℕ) where
+  pub filled-more : (getD cells (a + n) 0 ≡ 0xFF → ⊥) → filled (n + 1) a cells ≡ filled n a cells + 1
+  unfolding filled
+  filled-more h = rw (add-one n, ne-eqb _ _ h)
+
+  pub filled-kept : getD cells (a + n) 0 ≡ 0xFF → filled (n + 1) a cells ≡ filled n a cells
+  unfolding filled
+  filled-kept h = rw (add-one n, h) (omega arith)
+
+-- And one page more.
+pub recounted-next : (n : ℕ) (row : Row) (cells counts : List ℕ) → recountedTo (n + 1) row cells counts ≡ recounted row (n * row .page) cells (recountedTo n row cells counts)
+unfolding recountedTo
+recounted-next n row cells counts = rw (add-one n)
 
 module _ (marks : List ℕ) (n : ℕ) (h : n < length marks) where
   pub mark-good : getD marks n 0 ≤ 1 → areMarks (drop n marks) ≡ areMarks (drop (n + 1) marks)

@@ -10,6 +10,8 @@ ghost use Rattle.rules.specs.Cycle.{written};
 ghost use Rattle.rules.specs.Sound.{areMarks};
 use rules::Row;
 
+pub mod counts;
+
 // Every byte takes the value.
 pub fn fill(bytes: &mut [u8], value: u8)
     ensures { λ _. ⌜ now (bytes .exit) ≡ replicate (length (now (bytes .entry))) value ⌝ }

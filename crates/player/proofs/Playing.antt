@@ -15,12 +15,15 @@ use Rattle.rules.specs.Device.{Widths, rowOf}
 use Rattle.rules.proofs.Widths.{identification-short}
 use Rattle.rules.specs.Trace.{Progress}
 use Rattle.rules.specs.Call.{worldRefusal, storedAs, runOutcome}
+use Rattle.rules.specs.Counts.{Agreeing, Reliable}
+use Rattle.rules.proofs.Counts.{counts-in-traces}
 use Rattle.rules.proofs.Program.{world-taken, world-facts}
 use Rattle.rules.proofs.Runs.{Course}
 use Rattle.m95.proofs.Calling.{run-course}
 use Rattle.player.specs.declared.contents.Fault.{Fault}
 use Rattle.player.specs.declared.contents.Said.{Said}
 use Rattle.player.specs.File.{saidAs, said}
+use Rattle.player.specs.Playing.{Playable}
 
 -- The length of a chip's file fits.
 pub file-fits : {row : Row} → Widths row → row .cells + row .identification + 2 < 2 ^ 26
@@ -82,8 +85,19 @@ module _ (device : ℕ) (w : World) (t a : List ℕ) (limit : ℕ) (p : Progress
   pub piece-taken : p .taken ≤ length t
   piece-taken = piece .inside
 
-  pub piece-world : worldRefusal device (p .world) ≡ 0
+  piece-world : worldRefusal device (p .world) ≡ 0
   piece-world = world-taken device (p .world) (world-facts device w z .0) (piece .sound) (piece .lent)
+
+  -- Counts that agree with the cells do so behind it, and refuse nothing in it.
+  module _ (h : Agreeing (rowOf device) w) where
+    reliable : Reliable (rowOf device) (p .number) (p .world)
+    reliable = subst (λ (q : Progress). Reliable (rowOf device) (q .number) (q .world)) (sym e) (counts-in-traces device w t a limit h)
+
+    pub piece-played : Playable device (p .world)
+    piece-played = record { taken = piece-world; agrees = reliable .agrees }
+
+    pub piece-counted : p .number ≡ 15 → ⊥
+    piece-counted = reliable .never
 
 -- What is read behind the bytes that are kept fits in the buffer.
 pub left-fits : (buf part : List ℕ) (c k m : ℕ) → c ≤ length buf → m ≤ length part → length (putMid c k buf part) ≡ length buf → c + m ≤ length buf

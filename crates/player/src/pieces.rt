@@ -6,7 +6,7 @@ ghost use mathlib.Core.Path.{_≡_};
 ghost use lib.ListN.{length, take, drop};
 ghost use Rattle.io.specs.Counts.{Counts};
 ghost use Rattle.rules.specs.World.{worldOf};
-ghost use Rattle.rules.specs.Call.{worldRefusal};
+ghost use Rattle.player.specs.Playing.{Playable};
 use files::Read;
 use rules::State;
 
@@ -25,7 +25,7 @@ pub struct Played {
 
 // The start of a run, with so many bytes in the buffer.
 pub fn started(state: State, filled: usize) -> Played
-    ensures { λ r. ⌜ (r .state ≡ state) × (r .filled ≡ filled) ⌝ }
+    ensures { λ r. ⌜ (r .state ≡ state) × (r .filled ≡ filled) × (r .number ≡ 0) ⌝ }
 {
     Played {
         number: 0,
@@ -64,21 +64,25 @@ fn read_on(is_over: bool, trace: i32, buf: &mut [u8]) -> Read
     files::read_up(trace, buf)
 }
 
-// Runs what is in the buffer, writes the answers, and reads on. Limit and answer room are as many as there are bytes.
+// Runs what is in the buffer, writes the answers, and reads on. Limit and answer room are as many as there are bytes. The counts agree with
+// the cells, so that no record is refused for one.
 fn play_piece(
     device: u8,
     p: Played,
     cells: &mut [u8],
     identification: &mut [u8],
     latch: &mut [u8],
+    counts: &mut [u16],
     buf: &mut [u8],
     answers: &mut [u8],
     trace: i32,
     output: i32,
 ) -> Played
-    requires { ⌜ worldRefusal device (worldOf (p .state) (now cells) (now identification) (now latch)) ≡ 0 ⌝ }
+    requires { ⌜ Playable device (worldOf (p .state) (now cells) (now identification) (now latch) (now counts)) ⌝ }
     requires { ⌜ (p .filled ≤ length (now buf)) × (length (now buf) ≤ length (now answers)) × (length (now buf) ≤ 65536) ⌝ }
-    ensures { λ r. ⌜ (worldRefusal device (worldOf (r .state) (now (cells .exit)) (now (identification .exit)) (now (latch .exit))) ≡ 0) × (r .filled ≤ length (now (buf .exit))) ⌝ }
+    ensures { λ r. ⌜
+        (Playable device (worldOf (r .state) (now (cells .exit)) (now (identification .exit)) (now (latch .exit)) (now (counts .exit))))
+        × (r .filled ≤ length (now (buf .exit))) × (r .number ≡ 15 → ⊥) ⌝ }
 {
     let filled = p.filled;
     let state = p.state;
@@ -88,6 +92,7 @@ fn play_piece(
         cells,
         identification,
         latch,
+        counts,
         &buf[..filled],
         answers,
         filled,
@@ -118,14 +123,17 @@ pub fn play_all(
     cells: &mut [u8],
     identification: &mut [u8],
     latch: &mut [u8],
+    counts: &mut [u16],
     buf: &mut [u8],
     answers: &mut [u8],
     trace: i32,
     output: i32,
 ) -> Played
-    requires { ⌜ worldRefusal device (worldOf (start .state) (now cells) (now identification) (now latch)) ≡ 0 ⌝ }
+    requires { ⌜ (Playable device (worldOf (start .state) (now cells) (now identification) (now latch) (now counts))) × (start .number ≡ 0) ⌝ }
     requires { ⌜ (start .filled ≤ length (now buf)) × (length (now buf) ≤ length (now answers)) × (length (now buf) ≤ 65536) ⌝ }
-    ensures { λ r. ⌜ worldRefusal device (worldOf (r .state) (now (cells .exit)) (now (identification .exit)) (now (latch .exit))) ≡ 0 ⌝ }
+    ensures { λ r. ⌜
+        (Playable device (worldOf (r .state) (now (cells .exit)) (now (identification .exit)) (now (latch .exit)) (now (counts .exit))))
+        × (r .number ≡ 15 → ⊥) ⌝ }
 {
     let mut p = start;
     let mut turns = u64::MAX;
@@ -136,6 +144,7 @@ pub fn play_all(
             cells,
             identification,
             latch,
+            counts,
             buf,
             answers,
             trace,

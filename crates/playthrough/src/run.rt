@@ -7,7 +7,8 @@ ghost use Rattle.io.specs.Counts.{Counts};
 ghost use mathlib.Core.Bool.{true};
 ghost use Rattle.rules.specs.World.{worldOf};
 ghost use Rattle.rules.specs.Device.{isDevice};
-ghost use Rattle.rules.specs.Call.{lentRefusal, worldRefusal};
+ghost use Rattle.rules.specs.Call.{lentRefusal};
+ghost use Rattle.player.specs.Playing.{Playable};
 use crate::chip::replace;
 use crate::say::complain;
 use crate::say::fail;
@@ -40,13 +41,15 @@ fn play_into(
     cells: &mut [u8],
     identification: &mut [u8],
     latch: &mut [u8],
+    counts: &mut [u16],
     buf: &mut [u8],
     input: i32,
     trace: &[u8],
     answers: &[u8],
 ) -> Played
-    requires { ⌜ (worldRefusal device (worldOf (start .state) (now cells) (now identification) (now latch)) ≡ 0) × (start .filled ≤ length (now buf)) × (length (now buf) ≡ 65536) ⌝ }
-    ensures { λ r. ⌜ worldRefusal device (worldOf (r .state) (now (cells .exit)) (now (identification .exit)) (now (latch .exit))) ≡ 0 ⌝ }
+    requires { ⌜ (Playable device (worldOf (start .state) (now cells) (now identification) (now latch) (now counts))) × (start .number ≡ 0) ⌝ }
+    requires { ⌜ (start .filled ≤ length (now buf)) × (length (now buf) ≡ 65536) ⌝ }
+    ensures { λ r. ⌜ Playable device (worldOf (r .state) (now (cells .exit)) (now (identification .exit)) (now (latch .exit)) (now (counts .exit))) ⌝ }
 {
     let mut room = io::large_buffer();
     let output = os::open_overwrite(answers);
@@ -62,6 +65,7 @@ fn play_into(
         cells,
         identification,
         latch,
+        counts,
         buf,
         &mut room,
         input,
@@ -111,12 +115,13 @@ fn play_loaded(
     cells: &mut [u8],
     identification: &mut [u8],
     latch: &mut [u8],
+    counts: &mut [u16],
     chip: &[u8],
     trace: &[u8],
     answers: &[u8],
     new: &[u8],
 )
-    requires { ⌜ worldRefusal device (worldOf state (now cells) (now identification) (now latch)) ≡ 0 ⌝ }
+    requires { ⌜ Playable device (worldOf state (now cells) (now identification) (now latch) (now counts)) ⌝ }
 {
     let mut buf = io::large_buffer();
     let begun = begin(trace, &mut buf);
@@ -138,6 +143,7 @@ fn play_loaded(
         cells,
         identification,
         latch,
+        counts,
         &mut buf,
         input,
         trace,
@@ -148,20 +154,22 @@ fn play_loaded(
     }
 }
 
-// Plays the trace in buffers of the device's lengths: a prepared chip, with what its file holds.
+// Plays the trace in buffers of the device's lengths: a prepared chip, with what its file holds. No file has counts, so that the pages are
+// counted when it is read.
 fn play_lent(
     device: u8,
     cells: &mut [u8],
     identification: &mut [u8],
     latch: &mut [u8],
+    counts: &mut [u16],
     chip: &[u8],
     trace: &[u8],
     answers: &[u8],
     new: &[u8],
 )
-    requires { ⌜ lentRefusal device (now cells) (now identification) (now latch) ≡ 0 ⌝ }
+    requires { ⌜ lentRefusal device (now cells) (now identification) (now latch) (now counts) ≡ 0 ⌝ }
 {
-    m95::prepare(device, cells, identification, latch);
+    m95::prepare(device, cells, identification, latch, counts);
     let row = tables::row_of(device);
     let said = contents::load(row, chip, cells, identification);
     let fault = said.fault;
@@ -175,12 +183,14 @@ fn play_lent(
         );
         return;
     }
+    m95::count_pages(device, cells, counts);
     play_loaded(
         device,
         loaded.state,
         cells,
         identification,
         latch,
+        counts,
         chip,
         trace,
         answers,
@@ -195,16 +205,19 @@ pub fn play_device(device: u8, chip: &[u8], trace: &[u8], answers: &[u8], new: &
     let mut cells = [0xFFu8; 262144];
     let mut identification = [0u8; 256];
     let mut latch = [0u8; 512];
+    let mut counts = [0u16; 1024];
     let row = tables::row_of(device);
     let room = row.cells;
     let identification_room = row.identification;
     let page = row.page;
     let both = page + page;
+    let pages = tables::page_count(row);
     play_lent(
         device,
         &mut cells[..room],
         &mut identification[..identification_room],
         &mut latch[..both],
+        &mut counts[..pages],
         chip,
         trace,
         answers,

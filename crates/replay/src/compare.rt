@@ -100,12 +100,13 @@ fn run_trace(
     cells: &mut [u8],
     identification: &mut [u8],
     latch: &mut [u8],
+    counts: &mut [u16],
     answers: &mut [u8],
 ) -> Ran
     requires { ⌜ (at + 24 + h .trace ≤ length (now bytes)) × (length (now bytes) ≤ 131072) ⌝ }
 {
     let device = h.device;
-    let ready = m95::prepare(device, cells, identification, latch);
+    let ready = m95::prepare(device, cells, identification, latch, counts);
     let start = at + 24;
     let end = start + h.trace;
     m95::run(
@@ -114,6 +115,7 @@ fn run_trace(
         cells,
         identification,
         latch,
+        counts,
         &bytes[start..end],
         answers,
         h.trace,
@@ -128,6 +130,7 @@ fn is_good(
     cells: &mut [u8],
     identification: &mut [u8],
     latch: &mut [u8],
+    counts: &mut [u16],
     blank: &mut [u8],
     factory: &mut [u8],
     answers: &mut [u8],
@@ -135,8 +138,8 @@ fn is_good(
     requires { ⌜ (at + 24 + h .trace + h .done + h .cells * 5 + h .page * 5 ≤ length (now bytes)) × (length (now bytes) ≤ 131072) ⌝ }
     requires { ⌜ (length (now cells) ≡ length (now blank)) × (length (now identification) ≡ length (now factory)) ⌝ }
 {
-    m95::prepare(h.device, blank, factory, latch);
-    let ran = run_trace(bytes, at, h, cells, identification, latch, answers);
+    m95::prepare(h.device, blank, factory, latch, counts);
+    let ran = run_trace(bytes, at, h, cells, identification, latch, counts, answers);
     let end = at + 24 + h.trace;
     let named = end + h.done;
     let paged = named + h.cells * 5;
@@ -153,6 +156,7 @@ fn is_good_here(bytes: &[u8], at: usize, h: Header) -> bool
     let mut cells = [0u8; 262144];
     let mut identification = [0u8; 256];
     let mut latch = [0u8; 512];
+    let mut counts = [0u16; 1024];
     let mut blank = [0u8; 262144];
     let mut factory = [0u8; 256];
     let mut answers = [0u8; 131072];
@@ -161,6 +165,7 @@ fn is_good_here(bytes: &[u8], at: usize, h: Header) -> bool
     let identification_room = row.identification;
     let page = row.page;
     let both = page + page;
+    let pages = tables::page_count(row);
     let length = h.trace;
     is_good(
         bytes,
@@ -169,6 +174,7 @@ fn is_good_here(bytes: &[u8], at: usize, h: Header) -> bool
         &mut cells[..room],
         &mut identification[..identification_room],
         &mut latch[..both],
+        &mut counts[..pages],
         &mut blank[..room],
         &mut factory[..identification_room],
         &mut answers[..length],

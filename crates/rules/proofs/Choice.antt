@@ -51,6 +51,10 @@ pub and-both : (a b : Bool) → a ≡ true → b ≡ true → (a && b) ≡ true
 and-both true b e f = f
 and-both false b e f = clash (sym e)
 
+-- What holds by both holds where the second is a weaker one.
+pub and-then : (a b c : Bool) → (b ≡ true → c ≡ true) → (a && b) ≡ true → (a && c) ≡ true
+and-then a b c f e = and-both a c (and-left a b e) (f (and-right a b e))
+
 -- Where both do not hold and the first does, the second does not.
 pub and-rest : (a b : Bool) → (a && b) ≡ false → a ≡ true → b ≡ false
 and-rest true b e f = e

@@ -36,7 +36,9 @@ readable row (Event.Hold true) w h = record { long = refl; event = refl; refused
 readable row (Event.Hold false) w h = record { long = refl; event = refl; refused = refl }
 readable row (Event.Protect true) w h = record { long = refl; event = refl; refused = refl }
 readable row (Event.Protect false) w h = record { long = refl; event = refl; refused = refl }
-readable row (Event.Wait n) w h = record { long = refl; event = ap Event.Wait (omega (arith, ltb-true n 4_294_967_296 h)); refused = refl }
+readable row (Event.Wait n) w h =
+    let short = ltb-true n 4_294_967_296 h in
+    record { long = refl; event = ap Event.Wait (omega (arith, short)); refused = ap (λ (m : ℕ). refusal row (Event.Wait m) w) (omega (arith, short)) }
 readable row Event.Power w h = record { long = refl; event = refl; refused = refl }
 
 -- The answer byte of what is seen of an event.

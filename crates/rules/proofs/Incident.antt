@@ -8,7 +8,7 @@ use native.Mathlib.Omega.{arith}
 use lib.ListN.{length-append, length-replicate}
 use lib.Dec.{lit<}
 use Rattle.rules.specs.World.{Row, Event, World, bit, number}
-use Rattle.rules.specs.Device.{Widths, m95128d, prepared}
+use Rattle.rules.specs.Device.{Widths, pageCount, m95128d, prepared}
 use Rattle.rules.specs.Event.{next, after}
 use Rattle.rules.specs.Sound.{Sound, Lent}
 use Rattle.rules.specs.Examples.{bitsIn}
@@ -61,6 +61,7 @@ prepared-lent {row} v =
       cells = length-replicate (row .cells) 0xFF;
       identification = simp (length-append, length-replicate) (omega (arith, v .codeFits));
       latch = rw length-replicate (omega arith);
+      counts = length-replicate (pageCount row) 0;
     }
 
 -- Events that are kept one and all.

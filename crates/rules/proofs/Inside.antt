@@ -13,10 +13,11 @@ use Rattle.rules.specs.Instruction.{facts, changes, busy, holdsLatch, la
 use Rattle.rules.specs.Receive.{isCode, isLatched, latchAfter, inputAfter, risen, risenLatch}
 use Rattle.rules.specs.Send.{fallen}
 use Rattle.rules.specs.Cycle.{waitedState, waited}
-use Rattle.rules.specs.Event.{pinsAfter, decodes, react, settled, step, next, after}
+use Rattle.rules.specs.Event.{pinsAfter, decodes, refusal, react, settled, step, next, after}
 use Rattle.rules.specs.Sound.{Unsettled, Sound, Lent}
 use Rattle.rules.specs.Selections.{rises, Inside, end, clock, input, low, hold, protect, wait}
-use Rattle.rules.proofs.Choice.{if-elim, if-no, clash, and-left, and-right, and-both}
+use Rattle.rules.specs.Recorded.{fits, runnable}
+use Rattle.rules.proofs.Choice.{if-elim, if-both, if-no, clash, and-left, and-right, and-both, and-then}
 use Rattle.rules.proofs.Latch.{Agree}
 use Rattle.rules.proofs.Received.{lock-form, latch-long}
 use Rattle.rules.proofs.Preserved.{unheld, pinned, next-sound}
@@ -128,11 +129,12 @@ module _ {row : Row} (v : Widths row) where
   low-in {n} k (twin w l y m on c h) =
       rw (k .low on) (twin (withState (settled (withPins (pinsAfter (Event.Select false) (w .state .pins)) (w .state))) w) l y m on c h)
 
-  -- All events inside. What is counted is the rises, and the world stays sound.
+  -- All events inside. What is counted is the rises, the world stays sound, and where none is refused none of those kept is refused either.
   pub run-in : {n : ℕ} {w t : World} {es ks : List Event} → Inside es ks → Sound row w → Lent row w → In row n w t
       → Sound row (after row es w) × Lent row (after row es w) × In row (rises row es w n) (after row es w) (after row ks t)
+      × (runnable row es w ≡ true → runnable row ks t ≡ true)
   unfolding next step react
-  run-in end k e g = (k, e, g)
+  run-in end k e g = (k, e, g, λ r. r)
   run-in {n} {w} (clock b i) k e g =
       let p = next-sound v (Event.Clock b) w k e in
       run-in i (p .0) (p .1) (clock-in b (k .unsettled) e g)
@@ -151,6 +153,11 @@ module _ {row : Row} (v : Widths row) where
   run-in {n} (protect false i) k e (twin w l y m on c h) =
       let p = next-sound v (Event.Protect false) w k e in
       run-in i (p .0) (p .1) (uncounted w (next row (Event.Protect false) w) (settled-in (twin (unheld row (Event.Protect false) w) l y m on c h)))
-  run-in {n} (wait q i) k e (twin w l y m on c h) =
-      let p = next-sound v (Event.Wait q) w k e in
-      run-in i (p .0) (p .1) (uncounted w (next row (Event.Wait q) w) (settled-in (wait-in v w (k .unsettled) (e .latch) l y n m on c h q)))
+  run-in {n} (wait {es = es} {ks = ks} q i) k e (twin w l y m on c h) =
+      let late = Event.Wait q in
+      let p = next-sound v late w k e in
+      let r = run-in i (p .0) (p .1) (uncounted w (next row late w)
+      (if-both (In row n) (eqb (refusal row late w) 0)
+      (λ _. settled-in (wait-in v w (k .unsettled) (e .latch) l y n m on c h q))
+      (λ _. twin w l y m on c h))) in
+      (r .0, r .1, r .2, and-then (fits late && eqb (refusal row late w) 0) (runnable row es (next row late w)) (runnable row ks (next row late (twinOf l y w))) (r .3))

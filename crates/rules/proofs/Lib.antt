@@ -21,6 +21,7 @@ pub mod Pieces
 pub mod Preserved
 pub mod Program
 pub mod Protection
+pub mod Counts
 pub mod Received
 pub mod Recorded
 pub mod Runs

@@ -19,6 +19,7 @@ use Rattle.rules.specs.Loaded as spec
 use Rattle.rules.proofs.Choice.{if-elim, clash, number-small, number-back}
 use Rattle.rules.proofs.Incident.{prepared-sound}
 use Rattle.rules.proofs.Widths.{of-device}
+use Rattle.rules.proofs.Preserved.{kept-lent}
 use Rattle.rules.proofs.Same.{Same, off, contents-same}
 use Rattle.rules.proofs.Selections.{sights-same}
 use Rattle.rules.proofs.Spent.{Spent, spent, contents-spent, sights-spent}
@@ -70,10 +71,10 @@ load-taken device x =
     ))))
 
 -- That state is sound in any buffers whose marks are 0 and 1.
-pub loaded-sound : {row : Row} → Widths row → (x : Stored) (cells identification latch : List ℕ) → ((i : ℕ) → getD latch (row .page + i) 0 ≤ 1) → Loadable row x
-    → Sound row (worldOf (poweredWith x) cells identification latch)
+pub loaded-sound : {row : Row} → Widths row → (x : Stored) (cells identification latch counts : List ℕ) → ((i : ℕ) → getD latch (row .page + i) 0 ≤ 1) → Loadable row x
+    → Sound row (worldOf (poweredWith x) cells identification latch counts)
 unfolding prepared
-loaded-sound {row} v x cells identification latch marks own =
+loaded-sound {row} v x cells identification latch counts marks own =
     let p = prepared-sound v .unsettled in
     record {
       unsettled =
@@ -160,7 +161,7 @@ module _ {row : Row} (v : Widths row) (w : World) (h : Sound row w) (l : Lent ro
   indistinct k later = (
     ap contents powers ∙ contents-spent from-power ∙ ap contents settles ∙ sym (contents-same from-loading),
     ap (sights row later) powers ∙ sights-spent row later from-power ∙ ap (sights row later) settles
-        ∙ sym (sights-same v later k (record { cells = l .cells; identification = l .identification; latch = l .latch }) from-loading),
+        ∙ sym (sights-same v later k (kept-lent _ l) from-loading),
   )
 
 -- Loading what a world has stored is not refused, and gives the state after power.
@@ -181,7 +182,7 @@ module _ (device : ℕ) (w : World) (z : worldRefusal device w ≡ 0) where
       rw (facts .0, own, lock-taken (hasIdentification (rowOf device)) (r .locked) (facts .1 .unsettled .page .lockable))
 
   powered-sound : Sound (rowOf device) (withState (poweredWith (storedIn (w .state))) w)
-  powered-sound = loaded-sound (of-device device) (storedIn (w .state)) (w .cells) (w .identification) (w .latch) (facts .1 .unsettled .marks) loadable
+  powered-sound = loaded-sound (of-device device) (storedIn (w .state)) (w .cells) (w .identification) (w .latch) (w .counts) (facts .1 .unsettled .marks) loadable
 
   reloaded-is : spec.reloaded device w ≡ withState (poweredWith (storedIn (w .state))) w
   reloaded-is = ap (λ (o : Loaded). withState (o .state) w) reloads
@@ -194,7 +195,7 @@ as-after-power device w z =
       unrefused = ap (λ (o : Loaded). o .number) (reloads device w z);
       taken = subst (λ (x : World). worldRefusal device x ≡ 0) (sym is)
           (world-taken device (withState (poweredWith (storedIn (w .state))) w) (facts device w z .0) (powered-sound device w z)
-          (record { cells = lent .cells; identification = lent .identification; latch = lent .latch }));
+          (kept-lent _ lent));
       rests = subst (λ (x : World). next (rowOf device) Event.Power x ≡ x) (sym is) (at-rest (rowOf device) w (storedIn (w .state)));
       powered = λ idle-now rest.
           let both = indistinct (of-device device) w (facts device w z .1) lent idle-now rest (powered-sound device w z) in

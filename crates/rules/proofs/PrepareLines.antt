@@ -29,6 +29,14 @@ prepare-latch : Gives spec.prepare-latch
 unfolding calls
 prepare-latch = refl
 
+prepare-counts : Gives spec.prepare-counts
+unfolding calls
+prepare-counts = refl
+
+prepare-counts-of-bytes : Gives spec.prepare-counts-of-bytes
+unfolding calls
+prepare-counts-of-bytes = refl
+
 prepare-the-m95010 : Gives spec.prepare-the-m95010
 unfolding calls
 prepare-the-m95010 = refl
@@ -40,6 +48,22 @@ prepare-the-m95020 = refl
 prepare-a-page-where-there-is-none : Gives spec.prepare-a-page-where-there-is-none
 unfolding calls
 prepare-a-page-where-there-is-none = refl
+
+count-taken : Gives spec.count-taken
+unfolding calls
+count-taken = refl
+
+count-device : Gives spec.count-device
+unfolding calls
+count-device = refl
+
+count-cells : Gives spec.count-cells
+unfolding calls
+count-cells = refl
+
+count-counts : Gives spec.count-counts
+unfolding calls
+count-counts = refl
 
 load-all-bits : Gives spec.load-all-bits
 unfolding calls
@@ -92,6 +116,8 @@ stored-lock = refl
 pub preparing : Given spec.preparing
 preparing =
     prepare-taken and prepare-device-eight and prepare-device-zero and prepare-cells and prepare-identification and prepare-latch
-    and prepare-the-m95010 and prepare-the-m95020 and prepare-a-page-where-there-is-none and load-all-bits and load-nothing and load-no-device
+    and prepare-counts and prepare-counts-of-bytes
+    and prepare-the-m95010 and prepare-the-m95020 and prepare-a-page-where-there-is-none
+    and count-taken and count-device and count-cells and count-counts and load-all-bits and load-nothing and load-no-device
     and load-no-srwd and load-wel and load-above-a-byte and load-lock and load-without-a-page and load-lock-without-a-page
     and stored-in-a-status-cycle and stored-in-a-lock-cycle and stored-lock and none

@@ -4,11 +4,11 @@ use mathlib.Core.Path.{_≡_, refl, sym, ap, _∙_}
 use mathlib.Core.Bool.{Bool, true, false, not, _&&_}
 use mathlib.Core.List.{List, [], _∷_}
 use native.Mathlib.Omega.{arith}
-use lib.ListN.{length, getD}
+use lib.ListN.{length, getD, length-set}
 use lib.Dec.{eqb, leb, lit<}
 use borrow.Author.Tests.{not-false}
 use Rattle.rules.specs.World.{Row, Kind, Event, Pins, Input, Command, State, World, number, withPins, withState}
-use Rattle.rules.specs.Device.{Widths, hasIdentification}
+use Rattle.rules.specs.Device.{Widths, hasIdentification, pageCount}
 use Rattle.rules.specs.Instruction.{facts, changes, busy}
 use Rattle.rules.specs.Receive.{risen, risenLatch}
 use Rattle.rules.specs.Send.{isSending, fallen}
@@ -108,6 +108,7 @@ module _ {row : Row} (v : Widths row) (w : World) (h : Unsettled row w) (l : Len
             if-elim (λ (m : List ℕ). length m ≡ row .page + row .page) (decodes s && not (s .pins .c) && eqb (s .input .bits) 7)
             (λ _. latch-long v (s .input .value * 2 + number (s .pins .d)) w (l .latch) ∙ l .latch)
             (λ _. l .latch);
+        counts = l .counts;
       }
 
   fall-sound : Unsettled row (unheld row (Event.Clock false) w)
@@ -242,6 +243,7 @@ module _ (row : Row) (w : World) (n : ℕ) where
             (λ _. written-long (row .page) (row .page) (w .latch) 0 (w .identification) ∙ l .identification)
             (λ _. l .identification);
         latch = l .latch;
+        counts = if-elim (λ (m : List ℕ). length m ≡ pageCount row) (ends && changes (s .cycle .kind) .cells) (λ _. length-set (w .counts) _ _ ∙ l .counts) (λ _. l .counts);
       }
 
 unheld-sound : {row : Row} → Widths row → (e : Event) (w : World) → Unsettled row w → Lent row w → Unsettled row (unheld row e w)
@@ -256,8 +258,8 @@ unheld-sound v (Event.Protect false) w h l = protect-sound h
 unheld-sound v (Event.Wait n) w h l = wait-sound _ w n h
 unheld-sound v Event.Power w h l = deselected-sound {w = w} (powered (w .state)) h refl (h .stored) (h .page) (h .cycle)
 
-kept-lent : {row : Row} {w : World} (s : State) → Lent row w → Lent row (withState s w)
-kept-lent s l = record { cells = l .cells; identification = l .identification; latch = l .latch }
+pub kept-lent : {row : Row} {w : World} (s : State) → Lent row w → Lent row (withState s w)
+kept-lent s l = record { cells = l .cells; identification = l .identification; latch = l .latch; counts = l .counts }
 
 unheld-lent : {row : Row} → Widths row → (e : Event) (w : World) → Unsettled row w → Lent row w → Lent row (unheld row e w)
 unfolding react fallen

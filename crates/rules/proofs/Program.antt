@@ -9,7 +9,7 @@ use lib.ListN.{length, replicate, length-replicate}
 use lib.Dec.{eqb}
 use borrow.Author.Tests.{eqb-true, eq-eqb, not-false}
 use Rattle.rules.specs.World.{World}
-use Rattle.rules.specs.Device.{isDevice, rowOf, prepared}
+use Rattle.rules.specs.Device.{isDevice, rowOf, pageCount, prepared}
 use Rattle.rules.specs.Sound.{isSound, Sound, Lent}
 use Rattle.rules.specs.Trace.{progressOf, run}
 use Rattle.rules.specs.Call.{memoryRefusal, lentRefusal, worldRefusal, runOutcome}
@@ -28,7 +28,8 @@ world-taken device w d s l =
     let cells = eq-eqb (length (w .cells)) (row .cells) (l .cells) in
     let page = eq-eqb (length (w .identification)) (row .identification) (l .identification) in
     let latch = eq-eqb (length (w .latch)) (row .page + row .page) (l .latch) in
-    rw (d, cells, page, latch, reads row w .1 s)
+    let counts = eq-eqb (length (w .counts)) (pageCount row) (l .counts) in
+    rw (d, cells, page, latch, counts, reads row w .1 s)
 
 -- Cells and an identification page that are not refused are of a device, and have its lengths.
 pub memory-facts : (device : ℕ) (cells identification : List ℕ) → memoryRefusal device cells identification ≡ 0
@@ -50,30 +51,33 @@ memory-facts device cells identification =
 
 -- Buffers that are not refused have its lengths too, and a world that is not refused is sound besides.
 module _ (device : ℕ) (w : World) where
-  pub lent-facts : lentRefusal device (w .cells) (w .identification) (w .latch) ≡ 0 → (isDevice device ≡ true) × Lent (rowOf device) w
+  pub lent-facts : lentRefusal device (w .cells) (w .identification) (w .latch) (w .counts) ≡ 0 → (isDevice device ≡ true) × Lent (rowOf device) w
   unfolding lentRefusal
   lent-facts =
       let row = rowOf device in
       let n = memoryRefusal device (w .cells) (w .identification) in
       let rightLatch = eqb (length (w .latch)) (row .page + row .page) in
+      let rightCounts = eqb (length (w .counts)) (pageCount row) in
       let P : ℕ → Type 0 = λ (m : ℕ). m ≡ 0 → (isDevice device ≡ true) × Lent row w in
       if-elim P (not (eqb n 0)) (λ h e. clash (sym h ∙ ap not (eq-eqb n 0 e)))
       (λ h. if-elim P (not rightLatch) (λ _ e. absurd (omega arith))
-      (λ l _.
+      (λ l. if-elim P (not rightCounts) (λ _ e. absurd (omega arith))
+      (λ k _.
       let memory = memory-facts device (w .cells) (w .identification) (eqb-true n 0 (not-false (eqb n 0) h)) in (
         memory .0,
         record {
           cells = memory .1;
           identification = memory .2;
           latch = eqb-true (length (w .latch)) (row .page + row .page) (not-false rightLatch l);
+          counts = eqb-true (length (w .counts)) (pageCount row) (not-false rightCounts k);
         },
-      )))
+      ))))
 
   pub world-facts : worldRefusal device w ≡ 0 → (isDevice device ≡ true) × Sound (rowOf device) w × Lent (rowOf device) w
   unfolding worldRefusal
   world-facts =
       let row = rowOf device in
-      let n = lentRefusal device (w .cells) (w .identification) (w .latch) in
+      let n = lentRefusal device (w .cells) (w .identification) (w .latch) (w .counts) in
       let sound = isSound row (w .state) (w .latch) in
       let P : ℕ → Type 0 = λ (m : ℕ). m ≡ 0 → (isDevice device ≡ true) × Sound row w × Lent row w in
       if-elim P (not (eqb n 0)) (λ h e. clash (sym h ∙ ap not (eq-eqb n 0 e)))

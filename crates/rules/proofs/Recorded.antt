@@ -17,12 +17,13 @@ use Rattle.rules.specs.Call.{worldRefusal, runOutcome}
 use Rattle.rules.specs.Selections.{Visible, visible, sights, Inside, Cut, heard, heardLeft, happened, remaining}
 use Rattle.rules.specs.Recorded.{Demand3Devices, Demand3Seven, recorded, fits, runnable, outside, outsideLeft, seen, Alike, Demand3Run, IncidentRun}
 use Rattle.rules.proofs.Choice.{and-both}
-use Rattle.rules.proofs.Encoded.{byteOf, first-taken, rest-runs, run-recorded}
+use Rattle.rules.proofs.Encoded.{byteOf, run-recorded}
 use Rattle.rules.proofs.Incident.{prepared-sound, prepared-lent, incident}
 use Rattle.rules.proofs.Lookalike.{Lookalike, abreast, run-abreast, abreast-seen}
 use Rattle.rules.proofs.Program.{world-taken, world-facts}
+use Rattle.rules.proofs.Opened.{opened}
 use Rattle.rules.proofs.Preserved.{after-sound}
-use Rattle.rules.proofs.Selections.{demand-3}
+use Rattle.rules.proofs.Selections.{same-self, cut-same, demand-3}
 use Rattle.rules.proofs.Widths.{of-device}
 
 pub demand-3-seven : Demand3Seven
@@ -34,33 +35,7 @@ demand-3-seven device low high = (
 pub demand-3-devices : Demand3Devices
 demand-3-devices device w g es ks c = let k = world-facts device w g in demand-3 (rowOf device) (of-device device) w (k .1) (k .2) es ks c
 
--- What is left can be run too: outside the selections the same is seen, and inside them nothing is ever refused.
-module _ (row : Row) where
-  inside-runs : {inner kept : List Event} → Inside inner kept → (es ks : List Event) (w t : World) → runnable row (inner ++ es) w ≡ true
-      → (runnable row es (after row inner w) ≡ true → runnable row ks (after row kept t) ≡ true) → runnable row (kept ++ ks) t ≡ true
-  inside-runs Inside.end es ks w t r f = f r
-  inside-runs (Inside.clock b i) es ks w t r f = inside-runs i es ks (next row (Event.Clock b) w) (next row (Event.Clock b) t) r f
-  inside-runs (Inside.input b i) es ks w t r f = inside-runs i es ks (next row (Event.Data b) w) (next row (Event.Data b) t) r f
-  inside-runs (Inside.low i) es ks w t r f = inside-runs i es ks (next row (Event.Select false) w) t r f
-  inside-runs (Inside.hold b i) es ks w t r f = inside-runs i es ks (next row (Event.Hold b) w) (next row (Event.Hold b) t) r f
-  inside-runs (Inside.protect b i) es ks w t r f = inside-runs i es ks (next row (Event.Protect b) w) (next row (Event.Protect b) t) r f
-  inside-runs (Inside.wait {es = inner} {ks = kept} n i) es ks w t r f =
-      let e = Event.Wait n in
-      and-both (fits e && true) (runnable row (kept ++ ks) (next row e t)) (first-taken row e (inner ++ es) w r)
-      (inside-runs i es ks (next row e w) (next row e t) (rest-runs row e (inner ++ es) w r) f)
-
-left-runs : {row : Row} {w : World} {es ks : List Event} (c : Cut row w es ks) (t : World) → heard c ≡ heardLeft c t → runnable row es w ≡ true → runnable row ks t ≡ true
-unfolding heard heardLeft
-left-runs Cut.done t h r = refl
-left-runs {row} {w} (Cut.keep {es = es} {ks = ks} e c) t h r =
-    let first : visible row e w ≡ visible row e t = cc in
-    let rest : heard c ≡ heardLeft c (next row e t) = cc in
-    let taken : (fits e && eqb (refusal row e t) 0) ≡ true = rw (← (ap (λ (v : Visible). v .0) first)) (first-taken row e es w r) in
-    and-both (fits e && eqb (refusal row e t) 0) (runnable row ks (next row e t)) taken (left-runs c (next row e t) rest (rest-runs row e es w r))
-left-runs {row} {w} (Cut.drop {es = es} {ks = ks} {kept = kept} o s i b c) t h r =
-    inside-runs row i (Event.Select true ∷ es) ks (next row (Event.Select false) w) t r (λ q. left-runs c (after row kept t) h q)
-
--- And it is no longer.
+-- What is left is no longer than the run.
 inside-shorter : {inner kept : List Event} → Inside inner kept → length kept ≤ length inner
 inside-shorter Inside.end = omega arith
 inside-shorter (Inside.clock b i) = omega (arith, inside-shorter i)
@@ -128,10 +103,12 @@ pub demand-3-run : Demand3Run
 demand-3-run device w g es ks c r answers limit room long =
     let row = rowOf device in
     let unseen = demand-3-devices device w g es ks c in
+    let k = world-facts device w g in
+    let runs = cut-same (of-device device) (k .1) (k .2) (same-self w) c .2 r in
     let alike : Lookalike row (after row es w) (after row ks w) = record { stored = unseen .1; unseen = unseen .2 } in
     let shorter = left-shorter c in
     let whole = runs-good device w g (recorded es) answers limit ∙ run-recorded row es w answers limit r room long in
-    let left = runs-good device w g (recorded ks) answers limit ∙ run-recorded row ks w answers limit (left-runs c w (unseen .0) r) (omega arith) (omega arith) in
+    let left = runs-good device w g (recorded ks) answers limit ∙ run-recorded row ks w answers limit runs (omega arith) (omega arith) in
     subst₂ (Alike device c) (sym whole) (sym left)
     (record {
       ends = record { unrefused = refl; taken = refl; done = refl };
@@ -142,8 +119,12 @@ demand-3-run device w g es ks c r answers limit room long =
       traces = runs-alike device alike (good-after device w g es) (good-after device w g ks);
     })
 
+incident-runs : runnable m95128d happened (prepared m95128d) ≡ true
+unfolding opened
+incident-runs = refl
+
 pub incident-run : IncidentRun incident
 incident-run answers limit room long =
     let w = prepared m95128d in
     let v = of-device 2 in
-    demand-3-run 2 w (world-taken 2 w refl (prepared-sound v) (prepared-lent v)) happened remaining incident refl answers limit room long
+    demand-3-run 2 w (world-taken 2 w refl (prepared-sound v) (prepared-lent v)) happened remaining incident incident-runs answers limit room long

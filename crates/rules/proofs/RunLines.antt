@@ -61,6 +61,10 @@ run-latch : Gives spec.run-latch
 unfolding calls
 run-latch = refl
 
+run-counts : Gives spec.run-counts
+unfolding calls
+run-counts = refl
+
 run-mark : Gives spec.run-mark
 unfolding calls
 run-mark = refl
@@ -101,9 +105,19 @@ run-power-in-a-cycle : Gives spec.run-power-in-a-cycle
 unfolding calls
 run-power-in-a-cycle = refl
 
+run-no-answer-left-for-a-wrong-count : Gives spec.run-no-answer-left-for-a-wrong-count
+unfolding calls
+run-no-answer-left-for-a-wrong-count = refl
+
+run-wrong-count : Gives spec.run-wrong-count
+unfolding calls
+run-wrong-count = refl
+
 pub runs : Given spec.runs
 runs =
     run-to-its-end and run-to-its-limit and run-data-select-protect and run-clock-hold and run-wait and run-wait-third-byte and run-wait-fourth-byte
     and run-answers-low and run-answers-high and run-device and run-cells and run-identification and run-a-page-where-there-is-none and run-latch
+    and run-counts
     and run-mark and run-no-four-bytes and run-unknown-kind and run-kind-of-two-bytes and run-wrong-length and run-length-of-two-bytes and run-no-body
-    and run-no-pin and run-no-answer-left and run-power-in-a-cycle and none
+    and run-no-pin and run-no-answer-left and run-power-in-a-cycle
+    and run-no-answer-left-for-a-wrong-count and run-wrong-count and none

@@ -1,7 +1,7 @@
 -- Laws on a record that is not refused, on one turn of a run, and on the whole of it.
 use Prim.Native.Nat.{ℕ, zero, suc, _+_, _-_, _*_, _≤_, _<_}
 use mathlib.Core.Path.{_≡_, refl, sym, ap, _∙_, subst}
-use mathlib.Core.Bool.{Bool, true, false, not, _||_}
+use mathlib.Core.Bool.{Bool, true, false, not, _&&_, _||_}
 use mathlib.Core.List.{List}
 use native.Mathlib.Omega.{arith}
 use lib.ListN.{set, length, length-set}
@@ -9,7 +9,8 @@ use lib.Dec.{eqb, leb, ltb}
 use borrow.Author.Tests.{ne-eqb, lt-leb, eqb-true, eqb-false, leb-true, leb-false, ltb-false, not-false}
 use Rattle.rules.specs.World.{Row, Event, World}
 use Rattle.rules.specs.Device.{Widths}
-use Rattle.rules.specs.Instruction.{busy}
+use Rattle.rules.specs.Instruction.{changes, busy}
+use Rattle.rules.specs.Cycle.{isMiscounted, ends}
 use Rattle.rules.specs.Event.{step, answer, refusal}
 use Rattle.rules.specs.Sound.{Sound, Lent}
 use Rattle.rules.specs.Trace.{two, lengthOf, eventAt, badPin, recordRefusal, answerByte, Progress, progressOf, turn, run}
@@ -57,7 +58,10 @@ never-ten row (Event.Data b) w e = absurd (omega arith)
 never-ten row (Event.Select b) w e = absurd (omega arith)
 never-ten row (Event.Hold b) w e = absurd (omega arith)
 never-ten row (Event.Protect b) w e = absurd (omega arith)
-never-ten row (Event.Wait n) w e = absurd (omega arith)
+never-ten row (Event.Wait n) w e =
+    let s = w .state in
+    if-elim (λ (m : ℕ). m ≡ 10 → ⊥) (ends n s && changes (s .cycle .kind) .cells && isMiscounted row (s .place .start) (w .cells) (w .counts))
+    (λ _ e. absurd (omega arith)) (λ _ e. absurd (omega arith)) e
 never-ten row Event.Power w e = if-elim (λ (n : ℕ). n ≡ 10 → ⊥) (busy (w .state)) (λ _ e. absurd (omega arith)) (λ _ e. absurd (omega arith)) e
 
 ten-full : (row : Row) (t : List ℕ) (at : ℕ) {full : Bool} (w : World) → recordRefusal row t at full w ≡ 10 → full ≡ true
@@ -73,6 +77,21 @@ ten-full row t at {full} w =
     (λ hb. if-elim P (badPin t at kind) (λ _ e. absurd (omega arith))
     (λ hp. if-elim P full (λ hf _. hf)
     (λ hf e. absurd (never-ten row (eventAt t at) w e)))))))
+
+-- And a number past 10 only where the event itself is refused with it.
+pub refused-late : (row : Row) (t : List ℕ) (at : ℕ) (full : Bool) (w : World) (n : ℕ) → 10 < n → recordRefusal row t at full w ≡ n → refusal row (eventAt t at) w ≡ n
+unfolding recordRefusal
+refused-late row t at full w n late =
+    let left = length t - at in
+    let kind = two t (at + 2) in
+    let P : ℕ → Type 0 = λ (m : ℕ). m ≡ n → refusal row (eventAt t at) w ≡ n in
+    if-elim P (ltb left 4) (λ _ e. absurd (omega arith))
+    (λ _. if-elim P (eqb (lengthOf kind) 0) (λ _ e. absurd (omega arith))
+    (λ _. if-elim P (not (eqb (two t at) (lengthOf kind))) (λ _ e. absurd (omega arith))
+    (λ _. if-elim P (ltb left (2 + two t at)) (λ _ e. absurd (omega arith))
+    (λ _. if-elim P (badPin t at kind) (λ _ e. absurd (omega arith))
+    (λ _. if-elim P full (λ _ e. absurd (omega arith))
+    (λ _ e. e))))))
 
 -- The kinds there are have lengths 2 to 6.
 pub length-small : (k : ℕ) → lengthOf k ≤ 6

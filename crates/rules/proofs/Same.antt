@@ -14,7 +14,7 @@ use Rattle.rules.specs.Instruction.{facts, changes, busy, holdsLatch, la
 use Rattle.rules.specs.Receive.{isCode, isLast, isLatched, commandAfter, latchAfter, risen, risenLatch}
 use Rattle.rules.specs.Send.{fallen}
 use Rattle.rules.specs.Judge.{allows, isWhole, isDone, judged}
-use Rattle.rules.specs.Cycle.{written, waitedState, waited}
+use Rattle.rules.specs.Cycle.{written, recounted, waitedState, waited}
 use Rattle.rules.specs.Event.{pinsAfter, selected, deselected, decodes, answer, refusal, react, settled, step, next}
 use Rattle.rules.specs.Sound.{Lent}
 use Rattle.rules.specs.Selections.{contents, visible}
@@ -178,19 +178,23 @@ module _ (row : Row) (w : World) (l : List ℕ) (n : ℕ) (h : holdsLatch (w .st
   ended : Bool
   ended = busy (w .state) && leb (w .state .place .left) n
 
-  written-same : (b : Bool) (a : ℕ) (bytes : List ℕ) → (b ≡ true → holdsLatch (w .state .cycle .kind) ≡ true)
-      → (if ended && b then written (row .page) (row .page) l a bytes else bytes) ≡ (if ended && b then written (row .page) (row .page) (w .latch) a bytes else bytes)
-  written-same b a bytes f =
-      if-both (λ (x y : List ℕ). x ≡ y) (ended && b) (λ e. sym (written-agree row (w .latch) l (h (f (and-right ended b e))) (row .page) (omega arith) a bytes)) (λ _. refl)
+  -- What is made of the bytes written, where they are.
+  written-same : (b : Bool) (a : ℕ) (bytes kept : List ℕ) (made : List ℕ → List ℕ) → (b ≡ true → holdsLatch (w .state .cycle .kind) ≡ true)
+      → (if ended && b then made (written (row .page) (row .page) l a bytes) else kept) ≡ (if ended && b then made (written (row .page) (row .page) (w .latch) a bytes) else kept)
+  written-same b a bytes kept made f =
+      if-both (λ (x y : List ℕ). x ≡ y) (ended && b)
+      (λ e. ap made (sym (written-agree row (w .latch) l (h (f (and-right ended b e))) (row .page) (omega arith) a bytes))) (λ _. refl)
 
   -- A latch that will write the same makes no difference but for itself.
   pub waited-latch : unheld row (Event.Wait n) (withLatch l w) ≡ withLatch l (unheld row (Event.Wait n) w)
   unfolding react waitedState waited ended
   waited-latch =
       let k = changes (w .state .cycle .kind) in
+      let start = w .state .place .start in
       rw (
-        written-same (k .cells) (w .state .place .start) (w .cells) (or-left (k .cells) (k .identification)),
-        written-same (k .identification) 0 (w .identification) (or-right (k .cells) (k .identification)),
+        written-same (k .cells) start (w .cells) (w .cells) (λ (bytes : List ℕ). bytes) (or-left (k .cells) (k .identification)),
+        written-same (k .identification) 0 (w .identification) (w .identification) (λ (bytes : List ℕ). bytes) (or-right (k .cells) (k .identification)),
+        written-same (k .cells) start (w .cells) (w .counts) (λ (bytes : List ℕ). recounted row start bytes (w .counts)) (or-left (k .cells) (k .identification)),
       )
 
 wait-same : {row : Row} {w t : World} (n : ℕ) → Same row w t → Same row (unheld row (Event.Wait n) w) (unheld row (Event.Wait n) t)
@@ -240,13 +244,14 @@ answer-same : {row : Row} {w t : World} → Same row w t → answer (w .state) �
 answer-same (same w l n h) = refl
 answer-same (off w l x y n h) = refl
 
-refusal-same : {row : Row} {w t : World} (e : Event) → Same row w t → refusal row e w ≡ refusal row e t
+pub refusal-same : {row : Row} {w t : World} (e : Event) → Same row w t → refusal row e w ≡ refusal row e t
 refusal-same (Event.Clock b) g = refl
 refusal-same (Event.Data b) g = refl
 refusal-same (Event.Select b) g = refl
 refusal-same (Event.Hold b) g = refl
 refusal-same (Event.Protect b) g = refl
-refusal-same (Event.Wait n) g = refl
+refusal-same (Event.Wait n) (same w l m h) = refl
+refusal-same (Event.Wait n) (off w l x y m h) = refl
 refusal-same Event.Power (same w l n h) = refl
 refusal-same Event.Power (off w l x y n h) = refl
 

@@ -1,7 +1,7 @@
 -- The theorem `demand-3`: any number of broken selections may be taken out.
 use Prim.Native.Nat.{ℕ, _+_}
 use mathlib.Core.Path.{_≡_, refl, sym, ap, ap₂, _∙_, subst, subst₂}
-use mathlib.Core.Bool.{Bool, true, false, not, _&&_, and-false}
+use mathlib.Core.Bool.{Bool, true, false, not, _&&_, and-false, and-assoc}
 use mathlib.Core.List.{List, [], _∷_, _++_}
 use native.Mathlib.Omega.{arith}
 use lib.ListN.{length}
@@ -11,13 +11,14 @@ use Rattle.rules.specs.World.{Row, Kind, Level, Event, State, World, if_
 use Rattle.rules.specs.Device.{Widths}
 use Rattle.rules.specs.Instruction.{facts, holdsLatch}
 use Rattle.rules.specs.Judge.{allows, isWhole, isDone, judged}
-use Rattle.rules.specs.Event.{pinsAfter, selected, deselected, react, settled, step, next, after}
+use Rattle.rules.specs.Event.{pinsAfter, selected, deselected, refusal, react, settled, step, next, after}
 use Rattle.rules.specs.Sound.{Unsettled, Sound, Lent}
 use Rattle.rules.specs.Selections.{Visible, sights, Broken, Cut, done, keep, drop, heard, heardLeft, Demand3}
-use Rattle.rules.proofs.Choice.{if-yes, and-both, or-left}
+use Rattle.rules.specs.Recorded.{fits, runnable}
+use Rattle.rules.proofs.Choice.{if-yes, and-left, and-right, and-both, and-then, or-left}
 use Rattle.rules.proofs.Latch.{Agree}
 use Rattle.rules.proofs.Preserved.{pinned, next-sound, after-sound}
-use Rattle.rules.proofs.Same.{Left, idle, commandUses, Same, same, off, contents-same, next-same, visible-same}
+use Rattle.rules.proofs.Same.{Left, idle, commandUses, Same, same, off, contents-same, refusal-same, next-same, visible-same}
 use Rattle.rules.proofs.Inside.{In, twin, run-in}
 
 -- Nothing is done at the end of a broken selection: with whole bytes there is no byte at all.
@@ -123,21 +124,42 @@ after-append : (row : Row) (es fs : List Event) (w : World) → after row (es ++
 after-append row [] fs w = refl
 after-append row (e ∷ es) fs w = after-append row es fs (next row e w)
 
+runnable-append : (row : Row) (es fs : List Event) (w : World) → runnable row (es ++ fs) w ≡ (runnable row es w && runnable row fs (after row es w))
+runnable-append row [] fs w = refl
+runnable-append row (e ∷ es) fs w =
+    let first = fits e && eqb (refusal row e w) 0 in
+    ap (λ (b : Bool). first && b) (runnable-append row es fs (next row e w)) ∙ sym (and-assoc first (runnable row es (next row e w)) (runnable row fs (after row (e ∷ es) w)))
+
+-- What is left of a run leads to a world like the run's, the same is heard outside, and nothing of it is refused where nothing of the run is.
 module _ {row : Row} (v : Widths row) where
-  cut-same : {w t : World} {es ks : List Event} → Sound row w → Lent row w → Same row w t → (c : Cut row w es ks)
-      → Same row (after row es w) (after row ks t) × (heard c ≡ heardLeft c t)
+  pub cut-same : {w t : World} {es ks : List Event} → Sound row w → Lent row w → Same row w t → (c : Cut row w es ks)
+      → Same row (after row es w) (after row ks t) × (heard c ≡ heardLeft c t) × (runnable row es w ≡ true → runnable row ks t ≡ true)
   unfolding heard heardLeft
-  cut-same k l g done = (g, refl)
-  cut-same {w} {t} k l g (keep e c) =
+  cut-same k l g done = (g, refl, λ u. u)
+  cut-same {w} {t} k l g (keep {es = es} {ks = ks} e c) =
       let n = next-sound v e w k l in
       let r = cut-same (n .0) (n .1) (next-same e v l g) c in
-      (r .0, ap₂ {A = Visible} {B = List Visible} {C = List Visible} _∷_ (visible-same e v l g) (r .1))
+      let runs : ℕ → World → List Event → Bool = λ (m : ℕ) (x : World) (fs : List Event). fits e && eqb m 0 && runnable row fs (next row e x) in (
+        r .0,
+        ap₂ {A = Visible} {B = List Visible} {C = List Visible} _∷_ (visible-same e v l g) (r .1),
+        λ u. subst (λ (m : ℕ). runs m t ks ≡ true) (refusal-same e g)
+            (and-then (fits e && eqb (refusal row e w) 0) (runnable row es (next row e w)) (runnable row ks (next row e t)) (r .2) u),
+      )
   cut-same {w} {t} k l g (drop {es = es} {ks = ks} {inner = inner} {kept = kept} o p i b c) =
       let n = next-sound v (Event.Select false) w k l in
       let d = run-in v i (n .0) (n .1) (start-in (k .unsettled) o p g) in
       let m = next-sound v (Event.Select true) (after row inner (next row (Event.Select false) w)) (d .0) (d .1) in
       let r = cut-same (m .0) (m .1) (end-in (d .0 .unsettled) b (d .2)) c in
-      (subst₂ (Same row) (sym (after-append row inner (Event.Select true ∷ es) (next row (Event.Select false) w))) (sym (after-append row kept ks t)) (r .0), r .1)
+      let begun = next row (Event.Select false) w in
+      let over = next row (Event.Select true) (after row inner begun) in (
+        subst₂ (Same row) (sym (after-append row inner (Event.Select true ∷ es) begun)) (sym (after-append row kept ks t)) (r .0),
+        r .1,
+        λ u.
+            let both : (runnable row inner begun && runnable row es over) ≡ true = sym (runnable-append row inner (Event.Select true ∷ es) begun) ∙ u in
+            runnable-append row kept ks t
+            ∙ and-both (runnable row kept t) (runnable row ks (after row kept t)) (d .3 (and-left (runnable row inner begun) (runnable row es over) both))
+            (r .2 (and-right (runnable row inner begun) (runnable row es over) both)),
+      )
 
   pub sights-same : {w t : World} (es : List Event) → Sound row w → Lent row w → Same row w t → sights row es w ≡ sights row es t
   sights-same [] k l g = refl
@@ -145,8 +167,11 @@ module _ {row : Row} (v : Widths row) where
       let n = next-sound v e w k l in
       ap₂ {A = Visible} {B = List Visible} {C = List Visible} _∷_ (visible-same e v l g) (sights-same es (n .0) (n .1) (next-same e v l g))
 
+pub same-self : {row : Row} (w : World) → Same row w w
+same-self w = same w (w .latch) refl (λ _ i _. (refl, λ _. refl))
+
 pub demand-3 : Demand3
 demand-3 row v w k l es ks c =
-    let r = cut-same v k l (same w (w .latch) refl (λ _ i _. (refl, λ _. refl))) c in
+    let r = cut-same v k l (same-self w) c in
     let n = after-sound v es w k l in
     (r .1, contents-same (r .0), λ later. sights-same v later (n .0) (n .1) (r .0))

@@ -9,7 +9,7 @@ use Rattle.rules.specs.World.{Row, Kind, Source, Event, State, World, if
 use Rattle.rules.specs.Instruction.{facts, changes}
 use Rattle.rules.specs.Send.{byteOf, shownAddress, outputAfter, fallen}
 use Rattle.rules.specs.Judge.{storable, allows, isWhole, isDone, startOf, judged}
-use Rattle.rules.specs.Cycle.{ends, written, waitedState, waited}
+use Rattle.rules.specs.Cycle.{ends, written, isMiscounted, recounted, waitedState, waited}
 use Rattle.rules.specs.Event.{pinsAfter, selected, deselected, answer, refusal, react, settled, step, next}
 use Rattle.rules.specs.Selections.{Visible, contents, visible, sights}
 use Rattle.rules.proofs.Choice.{if-elim, if-both, clash}
@@ -35,11 +35,16 @@ pub data Spent : World → World → Type 0 where
   spent : (w : World) (start new : ℕ) (f : Filler) → (changes (w .state .cycle .kind) .cells ≡ true → start ≡ w .state .place .start)
       → (changes (w .state .cycle .kind) .status ≡ true → new ≡ w .state .cycle .next) → Spent w (withState (worn start new f (w .state)) w)
 
--- A choice that is made only where both are equal.
+-- A choice that is made, and a question that is asked, only where both are equal.
 choice : {A : Type 0} (e c : Bool) (x y z : A) → (c ≡ true → x ≡ y) → (if e && c then x else z) ≡ (if e && c then y else z)
 choice true true x y z h = h refl
 choice true false x y z h = refl
 choice false c x y z h = refl
+
+asked : (e c x y : Bool) → (c ≡ true → x ≡ y) → (e && c && x) ≡ (e && c && y)
+asked true true x y h = h refl
+asked true false x y h = refl
+asked false c x y h = refl
 
 -- S's rise: a cycle that begins makes anew what it uses.
 begun-start : (row : Row) (s : State) (start new : ℕ) (f : Filler) (k : Kind) → changes k .cells ≡ true → startOf row (worn start new f s) k ≡ startOf row s k
@@ -123,7 +128,12 @@ module _ (row : Row) (w : World) (start new : ℕ) (f : Filler) (h : changes (w 
       let s = w .state in
       let change = changes (s .cycle .kind) in
       let bytes : ℕ → List ℕ = λ (a : ℕ). written (row .page) (row .page) (w .latch) a (w .cells) in
-      rw (choice (ends n s) (change .status) new (s .cycle .next) (s .registers .status) g, choice (ends n s) (change .cells) (bytes start) (bytes (s .place .start)) (w .cells) (λ e. ap bytes (h e)))
+      let recount : ℕ → List ℕ = λ (a : ℕ). recounted row a (bytes a) (w .counts) in
+      rw (
+        choice (ends n s) (change .status) new (s .cycle .next) (s .registers .status) g,
+        choice (ends n s) (change .cells) (bytes start) (bytes (s .place .start)) (w .cells) (λ e. ap bytes (h e)),
+        choice (ends n s) (change .cells) (recount start) (recount (s .place .start)) (w .counts) (λ e. ap recount (h e)),
+      )
       (spent (step row (Event.Wait n) w) start new f
       (if-elim (λ (k : Kind). changes k .cells ≡ true → start ≡ s .place .start) (ends n s) (λ _ e. clash (sym e)) (λ _. h))
       (if-elim (λ (k : Kind). changes k .status ≡ true → new ≡ s .cycle .next) (ends n s) (λ _ e. clash (sym e)) (λ _. g)))
@@ -147,7 +157,10 @@ refusal-spent row (Event.Data b) g = refl
 refusal-spent row (Event.Select b) g = refl
 refusal-spent row (Event.Hold b) g = refl
 refusal-spent row (Event.Protect b) g = refl
-refusal-spent row (Event.Wait n) g = refl
+refusal-spent row (Event.Wait n) (spent w start new f h g) =
+    let s = w .state in
+    let wrong : ℕ → Bool = λ (a : ℕ). isMiscounted row a (w .cells) (w .counts) in
+    ap (λ (b : Bool). if b then 15 else 0) (asked (ends n s) (changes (s .cycle .kind) .cells) (wrong (s .place .start)) (wrong start) (λ e. ap wrong (sym (h e))))
 refusal-spent row Event.Power (spent w start new f h g) = refl
 
 next-spent : {w t : World} (row : Row) (e : Event) → Spent w t → Spent (next row e w) (next row e t)

@@ -1,16 +1,16 @@
 -- Facts on address width and page size, over the width; and that every row of the device table has the widths that they ask for.
 use Prim.Native.Nat.{ℕ, zero, suc, _+_, _-_, _*_, _/_, _%_, _^_, _≤_, _<_}
-use mathlib.Core.Path.{_≡_, refl, sym, ap, subst}
-use mathlib.Core.Bool.{Bool, true, false, not}
+use mathlib.Core.Path.{_≡_, refl, sym, ap, _∙_, subst}
+use mathlib.Core.Bool.{Bool, true, false, not, _&&_}
 use mathlib.Core.List.{List, [], _∷_, map}
-use native.Mathlib.Nat.{mod-lt, mul-mod-left, div-add-mod', div-lt-iff-lt-mul, mul-le-mul-right}
+use native.Mathlib.Nat.{mod-lt, mul-mod-left, div-add-mod', div-lt-iff-lt-mul, div-eq-of-eq-mul-left, div-eq-of-lt-le, mul-le-mul-right}
 use native.Mathlib.Omega.{arith}
 use lib.Pow.{pow-lt, pow-add}
 use lib.Dec.{eqb, leb, ltb}
 use lib.ListN.{length, getD}
 use borrow.Author.Tests.{eqb-true, leb-true, ltb-true}
 use Rattle.rules.specs.World.{if_then_else_, Row}
-use Rattle.rules.specs.Device.{Widths, hasIdentification, hasA8, entries, firstProtected, code, table, m95040, rowOf}
+use Rattle.rules.specs.Device.{Widths, hasIdentification, hasA8, pageCount, entries, firstProtected, code, table, m95040, rowOf}
 use Rattle.rules.specs.Instruction.{longer}
 use Rattle.rules.specs.Receive.{rolled}
 use Rattle.rules.specs.Sound.{_implies_, all}
@@ -123,6 +123,16 @@ module _ {row : Row} (v : Widths row) where
       let e : v .cellBits ≡ v .cellBits - v .pageBits + v .pageBits = omega (arith, v .smaller) in
       rw (v .cells, v .page, ← (pow-add 2 (v .cellBits - v .pageBits) (v .pageBits)), ← e)
 
+  pub page-count : (a : ℕ) → a < row .cells → a / row .page < pageCount row
+  page-count a h =
+      rw (div-eq-of-eq-mul-left {n = row .page} {m = row .cells} {k = 2 ^ (v .cellBits - v .pageBits)} page-positive pages)
+      (div-lt-iff-lt-mul page-positive .1 (subst (λ (n : ℕ). a < n) pages h))
+
+  pub page-inside : (p : ℕ) → p < pageCount row → p * row .page + row .page ≤ row .cells
+  page-inside p h =
+      let few = subst (λ (n : ℕ). p < n) (div-eq-of-eq-mul-left {n = row .page} {m = row .cells} {k = 2 ^ (v .cellBits - v .pageBits)} page-positive pages) h in
+      omega (arith, mul-le-mul-right (row .page) few, pages)
+
   pub longer-inside : (a b : ℕ) → longer row a b < row .cells
   unfolding longer
   longer-inside a b = mod-lt (a * 256 + b) (omega (arith, page-below))
@@ -139,6 +149,12 @@ start-aligned row a =
     let e : a - a % row .page ≡ a / row .page * row .page = omega (arith, div-add-mod' a (row .page)) in
     rw e (mul-mod-left (a / row .page) (row .page))
 
+-- No place is in two pages.
+pub pages-apart : (n p q i j : ℕ) → i < n → j < n → p * n + i ≡ q * n + j → p ≡ q
+pages-apart n p q i j h k e =
+    sym (div-eq-of-lt-le {k = p} n {m = p * n + i} (omega arith) (omega arith)) ∙ ap (λ (m : ℕ). m / n) e
+    ∙ div-eq-of-lt-le {k = q} n {m = q * n + j} (omega arith) (omega arith)
+
 -- A page start leaves room for its page.
 pub page-room : {row : Row} → Widths row → (a : ℕ) → a % row .page ≡ 0 → a < row .cells → a + row .page ≤ row .cells
 page-room {row} v a e h =
@@ -147,12 +163,16 @@ page-room {row} v a e h =
     let less : a / p < 2 ^ (v .cellBits - v .pageBits) = div-lt-iff-lt-mul (page-positive v) .1 (subst (λ (n : ℕ). a < n) (pages v) h) in
     omega (arith, mul-le-mul-right p less, pages v)
 
--- No device has more cells than this, and programs lend so many.
+-- No device has more cells and pages than this, and programs lend so many.
 hasRoom : Row → Bool
-hasRoom row = leb (row .cells) 262_144
+hasRoom row = leb (row .cells) 262_144 && leb (pageCount row) 1024
 
-pub room : (device : ℕ) {row : Row} → row ≡ rowOf device → (row .cells ≤ 262_144) × (row .page ≤ 256) × (row .identification ≤ 256)
+pub room : (device : ℕ) {row : Row} → row ≡ rowOf device → (row .cells ≤ 262_144) × (row .page ≤ 256) × (row .identification ≤ 256) × (pageCount row ≤ 1024)
 unfolding hasRoom
 room device e =
     let v = of-device device in
-    rw e (leb-true (rowOf device .cells) 262_144 (read-test hasRoom table refl (device - 1) m95040 refl), v .pageMost, omega (arith, v .pageMost, identification-short v))
+    let row = rowOf device in
+    let fits = read-test hasRoom table refl (device - 1) m95040 refl in
+    let cells = leb-true (row .cells) 262_144 (and-left (leb (row .cells) 262_144) (leb (pageCount row) 1024) fits) in
+    let counts = leb-true (pageCount row) 1024 (and-right (leb (row .cells) 262_144) (leb (pageCount row) 1024) fits) in
+    rw e (cells, v .pageMost, omega (arith, v .pageMost, identification-short v), counts)

@@ -1,8 +1,9 @@
 -- 01, "Numbers given back": the whole outcome of each public call, for every input. Refusals are read from top to bottom.
-use Rattle.rules.specs.World.{ℕ, _+_, Bool, false, _&&_, ltb, getD, _-_, _%_, not, List, [], take, drop, length, eqb, leb, if_then_else_, number}
-use Rattle.rules.specs.World.{Row, Region, Event, Stored, State, World, withStored}
-use Rattle.rules.specs.Device.{isDevice, rowOf, hasIdentification, preparedState, prepared}
+use Rattle.rules.specs.World.{ℕ, zero, suc, _+_, _*_, Bool, false, _&&_, ltb, getD, _-_, _%_, not, List, [], take, drop, length, eqb, leb, if_then_else_, number}
+use Rattle.rules.specs.World.{Row, Region, Event, Stored, State, World, worldOf, withStored}
+use Rattle.rules.specs.Device.{isDevice, rowOf, hasIdentification, pageCount, preparedState, prepared}
 use Rattle.rules.specs.Judge.{storable}
+use Rattle.rules.specs.Cycle.{recounted}
 use Rattle.rules.specs.Sound.{isSound}
 use Rattle.rules.specs.Event.{powered, step, answer, refusal}
 use Rattle.rules.specs.Trace.{two, answerByte, Progress, run}
@@ -15,18 +16,19 @@ memoryRefusal device cells identification =
     else if not (eqb (length identification) (rowOf device .identification)) then 3
     else 0
 
--- 4 then: a latch of a wrong length.
-unfoldable pub lentRefusal : ℕ → List ℕ → List ℕ → List ℕ → ℕ
-lentRefusal device cells identification latch =
+-- 4 then: a latch of a wrong length. And 14: counts of a wrong length.
+unfoldable pub lentRefusal : ℕ → List ℕ → List ℕ → List ℕ → List ℕ → ℕ
+lentRefusal device cells identification latch counts =
     let n = memoryRefusal device cells identification in
     if not (eqb n 0) then n
     else if not (eqb (length latch) (rowOf device .page + rowOf device .page)) then 4
+    else if not (eqb (length counts) (pageCount (rowOf device))) then 14
     else 0
 
 -- 5 then: a state that is not sound, or a mark above 1.
 unfoldable pub worldRefusal : ℕ → World → ℕ
 worldRefusal device w =
-    let n = lentRefusal device (w .cells) (w .identification) (w .latch) in
+    let n = lentRefusal device (w .cells) (w .identification) (w .latch) (w .counts) in
     if not (eqb n 0) then n
     else if not (isSound (rowOf device) (w .state) (w .latch)) then 5
     else 0
@@ -39,11 +41,33 @@ pub record Prepared : Type 0 where
 abbrev pub preparedAs : ℕ → World → Prepared
 preparedAs number w = record { number = number; world = w }
 
-unfoldable pub prepareOutcome : ℕ → List ℕ → List ℕ → List ℕ → Prepared
-prepareOutcome device cells identification latch =
-    let lent : World = record { state = preparedState; cells = cells; identification = identification; latch = latch } in
-    let n = lentRefusal device cells identification latch in
-    record { number = n; world = if eqb n 0 then prepared (rowOf device) else lent }
+unfoldable pub prepareOutcome : ℕ → List ℕ → List ℕ → List ℕ → List ℕ → Prepared
+prepareOutcome device cells identification latch counts =
+    let n = lentRefusal device cells identification latch counts in
+    record { number = n; world = if eqb n 0 then prepared (rowOf device) else worldOf preparedState cells identification latch counts }
+
+-- W-204, counting a device's pages afresh, for whoever filled its cells: 1, 2, then 14. Refused, it leaves the counts. Page after page is counted:
+-- the first n of them.
+unfoldable pub recountedTo : ℕ → Row → List ℕ → List ℕ → List ℕ
+recountedTo zero row cells counts = counts
+recountedTo (suc n) row cells counts = recounted row (n * row .page) cells (recountedTo n row cells counts)
+
+pub record Counted : Type 0 where
+  pub number : ℕ
+  pub counts : List ℕ
+
+abbrev pub countedAs : ℕ → List ℕ → Counted
+countedAs number counts = record { number = number; counts = counts }
+
+unfoldable pub countOutcome : ℕ → List ℕ → List ℕ → Counted
+countOutcome device cells counts =
+    let row = rowOf device in
+    let n : ℕ =
+    if not (isDevice device) then 1
+    else if not (eqb (length cells) (row .cells)) then 2
+    else if not (eqb (length counts) (pageCount row)) then 14
+    else 0 in
+    record { number = n; counts = if eqb n 0 then recountedTo (pageCount row) row cells counts else counts }
 
 -- What a state has stored besides cells and identification page, and the state of a chip that has this stored and has just got its power.
 abbrev pub storedAs : ℕ → ℕ → Stored
@@ -73,7 +97,7 @@ loadOutcome device x =
     else 0 in
     loadedAs n (if eqb n 0 then poweredWith x else preparedState)
 
--- A single event: 1 to 5, then 11. A refused event answers 2 and changes nothing.
+-- A single event: 1 to 4, 14 and 5, then 11 or 15. A refused event answers 2 and changes nothing.
 pub record Replied : Type 0 where
   pub number : ℕ
   pub answer : ℕ
@@ -88,7 +112,7 @@ eventOutcome device w e =
     let after = step (rowOf device) e w in
     record { number = n; answer = if eqb n 0 then answerByte (answer (after .state)) else 2; world = if eqb n 0 then after else w }
 
--- A trace: 1 to 5 with no record done, else the run.
+-- A trace: 1 to 4, 14 and 5 with no record done, else the run.
 unfoldable pub runOutcome : ℕ → World → List ℕ → List ℕ → ℕ → Progress
 runOutcome device w trace answers limit =
     let n = worldRefusal device w in

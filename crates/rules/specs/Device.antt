@@ -1,5 +1,5 @@
 -- The device table, and preparing a device.
-use Rattle.rules.specs.World.{ℕ, _+_, _-_, _*_, _%_, _^_, _≤_, _<_, _≡_, Bool, true, false, not, _&&_}
+use Rattle.rules.specs.World.{ℕ, _+_, _-_, _*_, _/_, _%_, _^_, _≤_, _<_, _≡_, Bool, true, false, not, _&&_}
 use Rattle.rules.specs.World.{List, [], _∷_, _++_, getD, length, replicate, eqb, leb, ltb, if_then_else_, Sheet, Row, Instruction, Kind, Level, State, World}
 
 -- W-203, a line of the service sheet: the first protected address under BP 00, 01, 10 and 11. Under 00, which protects nothing, it is the
@@ -51,6 +51,10 @@ hasIdentification row = not (eqb (row .identification) 0)
 
 abbrev pub hasA8 : Row → Bool
 hasA8 row = single row && ltb 256 (row .cells)
+
+-- W-204: how many pages the cells make.
+abbrev pub pageCount : Row → ℕ
+pageCount row = row .cells / row .page
 
 -- The sheet's entries in the order of the settings, and the one under a setting.
 abbrev pub entries : Row → List ℕ
@@ -111,4 +115,5 @@ prepared row =
       cells = replicate (row .cells) 0xFF;
       identification = code row ++ replicate (row .identification - length (code row)) 0xFF;
       latch = replicate (row .page * 2) 0;
+      counts = replicate (pageCount row) 0;
     }

@@ -1,11 +1,11 @@
 -- 01, "Events": each event, the hold rule after it, and what Q answers.
 use Rattle.rules.specs.World.{ℕ, Bool, true, false, not, _&&_, _||_}
 use Rattle.rules.specs.World.{List, [], _∷_, eqb, if_then_else_, Row, Instruction, Level, Event, Pins, State, World, withPins, withSelection, withStored, withState, withLatch}
-use Rattle.rules.specs.Instruction.{busy}
+use Rattle.rules.specs.Instruction.{changes, busy}
 use Rattle.rules.specs.Receive.{risen, risenLatch}
 use Rattle.rules.specs.Send.{fallen}
 use Rattle.rules.specs.Judge.{judged}
-use Rattle.rules.specs.Cycle.{waited}
+use Rattle.rules.specs.Cycle.{isMiscounted, ends, waited}
 
 -- An event sets one pin to a level, or none.
 abbrev pub pinsAfter : Event → Pins → Pins
@@ -75,14 +75,17 @@ step row e w = let r = react row e w in withState (settled (withPins (pinsAfter 
 abbrev pub answer : State → Level
 answer s = if s .selection .held then Level.Z else s .output .q
 
--- What an event is refused with, or 0, asked of the world before it: 11 for power during a cycle. Refused, it changes nothing.
+-- What an event is refused with, or 0, asked of the world before it: 11 for power during a cycle; 15, with W-204, for a wait that would end an
+-- array cycle on a page whose count is wrong. Refused, it changes nothing, and no time passes.
 abbrev pub refusal : Row → Event → World → ℕ
 refusal row (Event.Clock b) w = 0
 refusal row (Event.Data b) w = 0
 refusal row (Event.Select b) w = 0
 refusal row (Event.Hold b) w = 0
 refusal row (Event.Protect b) w = 0
-refusal row (Event.Wait n) w = 0
+refusal row (Event.Wait n) w =
+    let s = w .state in
+    if ends n s && changes (s .cycle .kind) .cells && isMiscounted row (s .place .start) (w .cells) (w .counts) then 15 else 0
 refusal row Event.Power w = if busy (w .state) then 11 else 0
 
 -- The world after an event, refused or not, and after any number of them.

@@ -18,6 +18,7 @@ pub mod Selections
 pub mod Recorded
 pub mod Loaded
 pub mod Protection
+pub mod Counts
 pub mod Lines
 pub mod PrepareLines
 pub mod EventLines

@@ -2,7 +2,7 @@
 use Rattle.rules.specs.World.{ℕ, true, false, List, [], _∷_, _++_, replicate, Instruction, Kind, Level, State, World, worldOf, withPins, withSelection, withStored, withState}
 use Rattle.rules.specs.Device.{preparedState}
 use Rattle.rules.specs.Trace.{Progress, progressOf}
-use Rattle.rules.specs.Lines.{Line, run, good, noCells, noIdentification, noLatch, badMark, busy, inCycle, chosen, pageOfNone}
+use Rattle.rules.specs.Lines.{Line, run, good, noCells, noIdentification, noLatch, noCounts, badMark, busy, inCycle, miscounted, chosen, pageOfNone}
 
 -- Records.
 abbrev pin : ℕ → List ℕ
@@ -43,7 +43,7 @@ abbrev over : World
 over =
     worldOf
     (withStored (record { status = 0x0C; wel = false; locked = true }) (record { kind = Kind.None; next = 0x04 }) 496 0 preparedState)
-    (replicate 496 7 ++ replicate 16 1) (good .identification) (good .latch)
+    (replicate 496 7 ++ replicate 16 1) (good .identification) (good .latch) (good .counts)
 
 abbrev pub run-wait-third-byte : Line
 run-wait-third-byte = run 1 inCycle (wait 0 0 1 0) (9 ∷ []) 1 (progressOf 0 8 1 over (2 ∷ []))
@@ -70,7 +70,7 @@ run-answers-low = run 1 (withState (sending 0) good) (pin 0) (9 ∷ []) 1 (progr
 abbrev pub run-answers-high : Line
 run-answers-high = run 1 (withState (sending 6) good) (pin 0) (9 ∷ []) 1 (progressOf 0 5 1 (withState (sent 6 Level.High) good) (1 ∷ []))
 
--- Refused with 1 to 5 a trace did nothing, whatever its records and its limit.
+-- Refused with 1 to 4, 14 or 5 a trace did nothing, whatever its records and its limit.
 abbrev nothing : ℕ → World → Progress
 nothing number w = progressOf number 0 0 w (9 ∷ [])
 
@@ -89,10 +89,13 @@ run-a-page-where-there-is-none = run 6 pageOfNone (pin 4) (9 ∷ []) 1 (nothing 
 abbrev pub run-latch : Line
 run-latch = run 1 noLatch (pin 4) (9 ∷ []) 1 (nothing 4 noLatch)
 
+abbrev pub run-counts : Line
+run-counts = run 1 noCounts (pin 4) (9 ∷ []) 1 (nothing 14 noCounts)
+
 abbrev pub run-mark : Line
 run-mark = run 1 badMark (pin 4) (9 ∷ []) 0 (nothing 5 badMark)
 
--- Refused at a record: 6 for its first four bytes, 7, 8, 6 for its body, 9, 10, 11. The records before it are done, the answers behind it untouched.
+-- Refused at a record: 6 for its first four bytes, 7, 8, 6 for its body, 9, 10, then 11 or 15. The records before it are done, the answers behind it untouched.
 abbrev pub run-no-four-bytes : Line
 run-no-four-bytes = run 1 good (pin 4 ++ 3 ∷ 0 ∷ 1 ∷ []) (9 ∷ 9 ∷ []) 2 (progressOf 6 5 1 (withState chosen good) (2 ∷ 9 ∷ []))
 
@@ -120,9 +123,18 @@ run-no-answer-left = run 1 inCycle (pin 2 ++ power) (9 ∷ []) 2 (progressOf 10 
 abbrev pub run-power-in-a-cycle : Line
 run-power-in-a-cycle = run 1 inCycle (pin 2 ++ power) (9 ∷ 9 ∷ []) 2 (progressOf 11 5 1 inCycle (2 ∷ 9 ∷ []))
 
+-- W-204: 10 comes before 15 too, and a wait that is refused with 15 is refused whole.
+abbrev pub run-no-answer-left-for-a-wrong-count : Line
+run-no-answer-left-for-a-wrong-count = run 1 miscounted (pin 2 ++ wait 0x88 0x13 0 0) (9 ∷ []) 2 (progressOf 10 5 1 miscounted (2 ∷ []))
+
+abbrev pub run-wrong-count : Line
+run-wrong-count = run 1 miscounted (pin 2 ++ wait 0x88 0x13 0 0 ++ pin 2) (9 ∷ 9 ∷ 9 ∷ []) 3 (progressOf 15 5 1 miscounted (2 ∷ 9 ∷ 9 ∷ []))
+
 abbrev pub runs : List Line
 runs =
     run-to-its-end ∷ run-to-its-limit ∷ run-data-select-protect ∷ run-clock-hold ∷ run-wait ∷ run-wait-third-byte ∷ run-wait-fourth-byte
-    ∷ run-answers-low ∷ run-answers-high ∷ run-device ∷ run-cells ∷ run-identification ∷ run-a-page-where-there-is-none ∷ run-latch ∷ run-mark
+    ∷ run-answers-low ∷ run-answers-high ∷ run-device ∷ run-cells ∷ run-identification ∷ run-a-page-where-there-is-none ∷ run-latch
+    ∷ run-counts ∷ run-mark
     ∷ run-no-four-bytes ∷ run-unknown-kind ∷ run-kind-of-two-bytes ∷ run-wrong-length ∷ run-length-of-two-bytes ∷ run-no-body ∷ run-no-pin
-    ∷ run-no-answer-left ∷ run-power-in-a-cycle ∷ []
+    ∷ run-no-answer-left ∷ run-power-in-a-cycle
+    ∷ run-no-answer-left-for-a-wrong-count ∷ run-wrong-count ∷ []

@@ -6,9 +6,10 @@ use Rattle.rules.specs.Event.{pinsAfter, decodes, answer, refusal, next,
 use Rattle.rules.specs.Sound.{Sound, Lent}
 use Rattle.rules.specs.Examples.{bitsIn, bytesIn}
 
--- What anyone can see: of an event its number and Q, of the device its cells, identification bytes, stored status bits, RDSR's byte and the lock.
+-- What anyone can see: of an event its number and Q, of the device its cells and their counts, identification bytes, stored status bits, RDSR's byte and the lock.
 pub record Contents : Type 0 where
   pub cells : List ℕ
+  pub counts : List ℕ
   pub identification : List ℕ
   pub status : ℕ
   pub byte : ℕ
@@ -18,6 +19,7 @@ abbrev pub contents : World → Contents
 contents w =
     record {
       cells = w .cells;
+      counts = w .counts;
       identification = w .identification;
       status = w .state .registers .status;
       byte = statusByte (w .state);

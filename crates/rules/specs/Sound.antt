@@ -2,7 +2,7 @@
 use Rattle.rules.specs.World.{_++_, State, ℕ, _+_, _%_, _^_, _≤_, _<_, _≡_, Bool, true, false, not, _&&_, _||_}
 use Rattle.rules.specs.World.{List, [], _∷_, getD, drop, length, eqb, leb, ltb, if_then_else_, Row, Instruction, Kind, Level, Event, Selection, Input, Output, World}
 use mathlib.Core.Bool.{Bool·beq}
-use Rattle.rules.specs.Device.{Widths, hasIdentification}
+use Rattle.rules.specs.Device.{Widths, hasIdentification, pageCount}
 use Rattle.rules.specs.Instruction.{facts, changes, busy}
 use Rattle.rules.specs.Judge.{storable}
 use Rattle.rules.specs.Event.{step}
@@ -123,6 +123,7 @@ pub record Lent (row : Row) (w : World) : Type 0 where
   pub cells : length (w .cells) ≡ row .cells
   pub identification : length (w .identification) ≡ row .identification
   pub latch : length (w .latch) ≡ row .page + row .page
+  pub counts : length (w .counts) ≡ pageCount row
 
 -- The theorem `reads`: the test and the facts say the same. The theorem `preserved`: every event keeps a sound world sound and its lists as long.
 abbrev pub Reads : Type 0

@@ -111,13 +111,13 @@ sound-at-its-edges =
 -- instruction of it that a device with a page had left; nor such an instruction in a selection. What another command left is taken. The lock and
 -- RDID stand in the state of an M95128, where an M95128-D can leave them; the rest in that of an M95010, which is quicker to compute.
 abbrev small : State → World
-small s = worldOf s (replicate 128 7) [] (replicate 32 1)
+small s = worldOf s (replicate 128 7) [] (replicate 32 1) (replicate 8 16)
 
 abbrev refusedThere : State → Line
 refusedThere s = event 5 (small s) (Event.Data true) (repliedAs 5 2 (small s))
 
 abbrev plain : State → World
-plain s = worldOf s (replicate 16_384 7) [] (replicate 128 1)
+plain s = worldOf s (replicate 16_384 7) [] (replicate 128 1) (replicate 256 64)
 
 abbrev refusedPlain : State → Line
 refusedPlain s = event 7 (plain s) (Event.Data true) (repliedAs 5 2 (plain s))

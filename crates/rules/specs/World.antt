@@ -31,15 +31,16 @@ abbrev pub if_then_else_ {ℓ} : {A : Type ℓ} → Bool → A → A → A
 if_then_else_ true a b = a
 if_then_else_ false a b = b
 
--- 01, "The device's state": the state, and the three buffers that are lent.
+-- 01, "The device's state": the state, and the buffers that are lent; with W-204 a count for each page among them.
 pub record World : Type 0 where
   pub state : State
   pub cells : List ℕ
   pub identification : List ℕ
   pub latch : List ℕ
+  pub counts : List ℕ
 
-abbrev pub worldOf : State → List ℕ → List ℕ → List ℕ → World
-worldOf s cells identification latch = record { state = s; cells = cells; identification = identification; latch = latch }
+abbrev pub worldOf : State → List ℕ → List ℕ → List ℕ → List ℕ → World
+worldOf s cells identification latch counts = record { state = s; cells = cells; identification = identification; latch = latch; counts = counts }
 
 -- Bit k of n, and a bit as a number.
 abbrev pub bit : ℕ → ℕ → Bool
@@ -93,10 +94,10 @@ withStored r c start left s =
     }
 
 abbrev pub withState : State → World → World
-withState s w = record { state = s; cells = w .cells; identification = w .identification; latch = w .latch }
+withState s w = record { state = s; cells = w .cells; identification = w .identification; latch = w .latch; counts = w .counts }
 
 abbrev pub withLatch : List ℕ → World → World
-withLatch l w = record { state = w .state; cells = w .cells; identification = w .identification; latch = l }
+withLatch l w = record { state = w .state; cells = w .cells; identification = w .identification; latch = l; counts = w .counts }
 
 -- What is said of each line of a table.
 infixr 5 _and_

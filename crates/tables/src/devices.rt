@@ -1,7 +1,7 @@
 // The device table, a row for each device, and what a row says of its device.
 
 ghost use mathlib.Core.Path.{_≡_};
-ghost use Rattle.rules.specs.Device.{isDevice, rowOf, hasIdentification, hasA8, firstProtected};
+ghost use Rattle.rules.specs.Device.{Widths, isDevice, rowOf, hasIdentification, pageCount, hasA8, firstProtected};
 use rules::Row;
 use rules::Sheet;
 
@@ -145,6 +145,14 @@ pub fn has_identification(row: Row) -> bool
     ensures { λ r. ⌜ r ≡ hasIdentification row ⌝ }
 {
     row.identification != 0
+}
+
+// How many pages the cells make, which is how many counts a device has.
+pub fn page_count(row: Row) -> usize
+    requires { ⌜ Widths row ⌝ }
+    ensures { λ r. ⌜ r ≡ pageCount row ⌝ }
+{
+    row.cells / row.page
 }
 
 // Whether bit 3 of READ's and WRITE's code is A8: one address byte cannot name every cell.

@@ -9,6 +9,7 @@ pub use devices::first_protected;
 pub use devices::has_a8;
 pub use devices::has_identification;
 pub use devices::is_device;
+pub use devices::page_count;
 pub use devices::row_of;
 pub use instructions::decode;
 pub use instructions::facts;

@@ -2,15 +2,14 @@
 use Prim.Native.Nat.{ℕ, zero, suc, _+_, _-_, _*_, _/_, _≤_, _<_}
 use mathlib.Core.Path.{_≡_, refl, sym, ap, _∙_}
 use mathlib.Core.Bool.{Bool, true, false}
-use mathlib.Core.List.{List, []}
+use mathlib.Core.List.{List}
 use native.Mathlib.Omega.{arith}
 use lib.ListN.{getD, length}
 use lib.Dec.{leb, ltb}
 use borrow.Author.Tests.{eq-eqb, ne-eqb, lt-ltb, le-ltb}
 use Rattle.rules.specs.declared.Row.{Row}
 use Rattle.rules.specs.declared.Event.{Event}
-use Rattle.rules.specs.declared.State.{State}
-use Rattle.rules.specs.World.{World, if_then_else_, bit, worldOf, withState}
+use Rattle.rules.specs.World.{World, if_then_else_, bit}
 use Rattle.rules.specs.Event.{refusal}
 use Rattle.rules.specs.Trace.{two, lengthOf, pinEvent, eventAt, badPin, recordRefusal}
 use Rattle.rules.proofs.Runs.{Ready, ready}
@@ -56,10 +55,10 @@ module _ (t : List ℕ) (at : ℕ) {kind : ℕ} (ek : kind ≡ two t (at + 2)) w
 pub pin-other : (t : List ℕ) (at : ℕ) {kind : ℕ} → (kind ≡ 1 → ⊥) → false ≡ badPin t at kind
 pin-other t at {kind} h = rw (ne-eqb kind 1 h)
 
--- A record that is not refused, whatever the device and its buffers.
-pub taken : (row : Row) (t : List ℕ) (at : ℕ) (a : List ℕ) (n : ℕ) (s : State) {r : ℕ}
-    → ((row : Row) (w : World) → r ≡ recordRefusal row t at (leb (length a) n) (withState s w)) → r ≡ 0 → Ready row t at (leb (length a) n) (worldOf s [] [] [])
-taken row t at a n s e z = ready (sym (e row (worldOf s [] [] [])) ∙ z)
+-- A record that is not refused.
+pub taken : (row : Row) (t : List ℕ) (at : ℕ) (a : List ℕ) (n : ℕ) (w : World) {r : ℕ}
+    → r ≡ recordRefusal row t at (leb (length a) n) w → r ≡ 0 → Ready row t at (leb (length a) n) w
+taken row t at a n w e z = ready (sym e ∙ z)
 
 -- Why a record is refused.
 module _ (row : Row) (t : List ℕ) (at : ℕ) (full : Bool) (w : World) where

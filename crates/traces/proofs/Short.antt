@@ -14,7 +14,7 @@ use Rattle.rules.specs.declared.Source.{Source}
 use Rattle.rules.specs.declared.Output.{Output}
 use Rattle.rules.specs.declared.State.{State}
 use Rattle.rules.specs.declared.Event.{Event}
-use Rattle.rules.specs.World.{World, if_then_else_, number, withPins, withSelection, worldOf}
+use Rattle.rules.specs.World.{World, if_then_else_, number, withPins, withSelection, withState, worldOf}
 use Rattle.rules.specs.Receive.{isCode, isAddress, isLast, isLatched, addressAfter, latchAfter, inputAfter, value, isByte, risen, risenLatch}
 use Rattle.rules.specs.Send.{going, sourceOf, isSending, shownAddress, outputOf, outputAfter, fallen}
 use Rattle.rules.specs.Event.{pinsAfter, decodes, react, step, refusal}
@@ -164,58 +164,62 @@ module _ (row : Row) (s : State) where
   held-eq true false held = refl
   held-eq false h held = refl
 
-  pub still-way : (cells identification latch : List ℕ) → s .pins .c ≡ true → (decodes s && isSending row s) ≡ false
+  pub still-way : (w : World) → s .pins .c ≡ true → (decodes s && isSending row s) ≡ false
       → after (Event.Clock false) (heldAs (s .selection .selected && not (s .pins .hold) || not (s .selection .selected) && s .selection .held) s) (s .input) (s .output) s
-      ≡ step row (Event.Clock false) (worldOf s cells identification latch) .state
+      ≡ step row (Event.Clock false) (withState s w) .state
   unfolding step react fallen
-  still-way cells identification latch c h =
+  still-way w c h =
       let f = with-clock (decodes s) (isSending row s) false c h in
       let held : Bool → State = λ (x : Bool). after (Event.Clock false) (heldAs x s) (s .input) (s .output) s in
       ap held (held-eq (s .selection .selected) (not (s .pins .hold)) (s .selection .held)) ∙ rw f
 
-  pub shift-way : (cells identification latch : List ℕ) {o : Output} → s .pins .c ≡ true → (decodes s && isSending row s) ≡ true → (s .input .bits ≡ 0 → ⊥)
+  pub shift-way : (w : World) {o : Output} → s .pins .c ≡ true → (decodes s && isSending row s) ≡ true → (s .input .bits ≡ 0 → ⊥)
       → going row (sourceOf s) (s .place .address) .past ≡ false → o ≡ outputOf (s .output .sending) (s .input .bits)
-      → after (Event.Clock false) (heldAs (not (s .pins .hold)) s) (s .input) o s ≡ step row (Event.Clock false) (worldOf s cells identification latch) .state
+      → after (Event.Clock false) (heldAs (not (s .pins .hold)) s) (s .input) o s ≡ step row (Event.Clock false) (withState s w) .state
   unfolding step react fallen shownAddress outputAfter
-  shift-way cells identification latch c h z p eo =
+  shift-way w c h z p eo =
       let f = with-clock (decodes s) (isSending row s) true c h in
       let on : s .selection .selected ≡ true = and-left (s .selection .selected) (not (s .selection .held)) (and-left (decodes s) (isSending row s) h) in
       let k : (s .selection .selected && true) ≡ true = and-both (s .selection .selected) true on refl in
       rw (eo, f, ne-eqb (s .input .bits) 0 z, p, k)
 
 -- They touch no list.
-module _ (row : Row) (s : State) {r : State} {cells identification latch : List ℕ} where
+module _ (row : Row) (s : State) {r : State} {cells identification latch counts : List ℕ} where
   pub bit-alone : (s .input .bits ≡ 7 → ⊥) → r ≡ stepAlone row (Event.Clock true) s
-      → worldOf r cells identification latch ≡ step row (Event.Clock true) (worldOf s cells identification latch)
+      → worldOf r cells identification latch counts ≡ step row (Event.Clock true) (worldOf s cells identification latch counts)
   unfolding step react risenLatch
   bit-alone z e =
       let d = decodes s && not (s .pins .c) in
       let none : isByte d s ≡ false = rw (ne-eqb (s .input .bits) 7 z) (and-false d) in
-      ap (λ (x : State). worldOf x cells identification latch) e
-      ∙ ap (worldOf (stepAlone row (Event.Clock true) s) cells identification) (sym (if-no (isByte d s) (latchAfter row (value s) s latch) latch none))
+      ap (λ (x : State). worldOf x cells identification latch counts) e
+      ∙ ap (λ (l : List ℕ). worldOf (stepAlone row (Event.Clock true) s) cells identification l counts) (sym (if-no (isByte d s) (latchAfter row (value s) s latch) latch none))
 
   pub whole-alone : onlyCounts row s ≡ true → r ≡ stepAlone row (Event.Clock true) s
-      → worldOf r cells identification latch ≡ step row (Event.Clock true) (worldOf s cells identification latch)
+      → worldOf r cells identification latch counts ≡ step row (Event.Clock true) (worldOf s cells identification latch counts)
   unfolding step react risenLatch latchAfter
   whole-alone p e =
       let d = decodes s && not (s .pins .c) in
       let none = counts-only row s p in
       let kept : latchAfter row (value s) s latch ≡ latch = rw (none .0, none .3) in
-      ap (λ (x : State). worldOf x cells identification latch) e ∙ ap (worldOf (stepAlone row (Event.Clock true) s) cells identification) (sym (same (isByte d s) kept))
+      ap (λ (x : State). worldOf x cells identification latch counts) e ∙ ap (λ (l : List ℕ). worldOf (stepAlone row (Event.Clock true) s) cells identification l counts) (sym (same (isByte d s) kept))
     where
       same : (b : Bool) {x : List ℕ} → x ≡ latch → (if b then x else latch) ≡ latch
       same true h = h
       same false h = refl
 
   pub still-alone : s .pins .c ≡ true → (decodes s && isSending row s) ≡ false → r ≡ stepAlone row (Event.Clock false) s
-      → worldOf r cells identification latch ≡ step row (Event.Clock false) (worldOf s cells identification latch)
+      → worldOf r cells identification latch counts ≡ step row (Event.Clock false) (worldOf s cells identification latch counts)
   unfolding step react
-  still-alone c h e = ap (λ (x : State). worldOf x cells identification latch) (e ∙ sym (still-way row s [] [] [] c h) ∙ still-way row s cells identification latch c h)
+  still-alone c h e =
+      let here = still-way row s (worldOf s cells identification latch counts) c h in
+      ap (λ (x : State). worldOf x cells identification latch counts) (e ∙ sym (still-way row s (worldOf s [] [] [] []) c h) ∙ here)
 
   pub shift-alone : s .pins .c ≡ true → (decodes s && isSending row s) ≡ true → (s .input .bits ≡ 0 → ⊥) → going row (sourceOf s) (s .place .address) .past ≡ false
-      → r ≡ stepAlone row (Event.Clock false) s → worldOf r cells identification latch ≡ step row (Event.Clock false) (worldOf s cells identification latch)
+      → r ≡ stepAlone row (Event.Clock false) s → worldOf r cells identification latch counts ≡ step row (Event.Clock false) (worldOf s cells identification latch counts)
   unfolding step react
-  shift-alone c h z p e = ap (λ (x : State). worldOf x cells identification latch) (e ∙ sym (shift-way row s [] [] [] c h z p refl) ∙ shift-way row s cells identification latch c h z p refl)
+  shift-alone c h z p e =
+      let here = shift-way row s (worldOf s cells identification latch counts) c h z p refl in
+      ap (λ (x : State). worldOf x cells identification latch counts) (e ∙ sym (shift-way row s (worldOf s [] [] [] []) c h z p refl) ∙ here)
 
 -- A whole pin record with room is done, and takes five bytes.
 pub pin-done : (row : Row) {t : List ℕ} {at p : ℕ} (w : World) → IsPin t at p → p ≤ 9 → refusal row (pinEvent p) w ≡ 0

@@ -32,14 +32,17 @@ pub fn run_records(
     cells: &mut [u8],
     identification: &mut [u8],
     latch: &mut [u8],
+    counts: &mut [u16],
     trace: &[u8],
     answers: &mut [u8],
     limit: usize,
 ) -> Ran
-    requires { ⌜ (Widths row) × (Sound row (worldOf s (now cells) (now identification) (now latch))) × (Lent row (worldOf s (now cells) (now identification) (now latch))) ⌝ }
+    requires { ⌜
+        (Widths row) × (Sound row (worldOf s (now cells) (now identification) (now latch) (now counts)))
+        × (Lent row (worldOf s (now cells) (now identification) (now latch) (now counts))) ⌝ }
     ensures { λ r. ⌜
-        progressOf (r .number) (r .taken) (r .done) (worldOf (r .state) (now (cells .exit)) (now (identification .exit)) (now (latch .exit))) (now (answers .exit))
-        ≡ run limit row (now (trace .entry)) (progressOf 0 0 0 (worldOf s (now (cells .entry)) (now (identification .entry)) (now (latch .entry))) (now (answers .entry))) ⌝ }
+        progressOf (r .number) (r .taken) (r .done) (worldOf (r .state) (now (cells .exit)) (now (identification .exit)) (now (latch .exit)) (now (counts .exit))) (now (answers .exit))
+        ≡ run limit row (now (trace .entry)) (progressOf 0 0 0 (worldOf s (now (cells .entry)) (now (identification .entry)) (now (latch .entry)) (now (counts .entry))) (now (answers .entry))) ⌝ }
 {
     let mut t = s;
     let mut at: usize = 0;
@@ -56,7 +59,18 @@ pub fn run_records(
         let way = sorted(row, t, trace, at, n < answers.len());
         match way {
             Usual::Other => {
-                let turn = one(row, t, cells, identification, latch, trace, answers, at, n);
+                let turn = one(
+                    row,
+                    t,
+                    cells,
+                    identification,
+                    latch,
+                    counts,
+                    trace,
+                    answers,
+                    at,
+                    n,
+                );
                 if turn.number != 0 {
                     let u = turn.state;
                     return Ran {

@@ -2,11 +2,12 @@
 
 ghost use mathlib.Core.Path.{_≡_};
 ghost use mathlib.Core.Bool.{false};
-ghost use Prim.Native.Nat.{_+_, _≤_, _<_};
+ghost use mathlib.Core.List.{List};
+ghost use Prim.Native.Nat.{ℕ, _+_, _≤_, _<_};
 ghost use lib.ListN.{length};
-ghost use Rattle.rules.specs.World.{World, worldOf, withState};
-ghost use Rattle.rules.specs.Device.{Widths};
-ghost use Rattle.rules.specs.Sound.{Sound, Lent};
+ghost use Rattle.rules.specs.World.{worldOf};
+ghost use Rattle.rules.specs.Device.{Widths, pageCount};
+ghost use Rattle.rules.specs.Sound.{SoundCycle, Sound, Lent};
 ghost use Rattle.rules.specs.Trace.{two, lengthOf, pinEvent, eventAt, badPin, recordRefusal, progressOf, turn};
 use rules::Event;
 use rules::Row;
@@ -71,9 +72,19 @@ pub fn is_bad_pin(trace: &[u8], at: usize, kind: usize) -> bool
 }
 
 // What the record at a place is refused with, in document 01's order, or 0.
-pub fn refused(trace: &[u8], at: usize, full: bool, s: State) -> usize
-    requires { ⌜ at ≤ length (now trace) ⌝ }
-    ensures { λ r. ⌜ ((row : Row) (w : World) → r ≡ recordRefusal row (now (trace .entry)) at full (withState s w)) ⌝ }
+pub fn refused(
+    row: Row,
+    s: State,
+    cells: &[u8],
+    counts: &[u16],
+    trace: &[u8],
+    at: usize,
+    full: bool,
+) -> usize
+    requires { ⌜ (Widths row) × (SoundCycle row (s .cycle .kind) (s .cycle .next) (s .place .start) (s .place .left)) ⌝ }
+    requires { ⌜ (length (now cells) ≡ row .cells) × (length (now counts) ≡ pageCount row) × (at ≤ length (now trace)) ⌝ }
+    ensures { λ r. ⌜ (
+        (identification latch : List ℕ) → r ≡ recordRefusal row (now (trace .entry)) at full (worldOf s (now (cells .entry)) identification latch (now (counts .entry)))) ⌝ }
 {
     let left = trace.len() - at;
     if left < 4 {
@@ -97,7 +108,7 @@ pub fn refused(trace: &[u8], at: usize, full: bool, s: State) -> usize
     if full {
         return 10;
     }
-    chip::event::refused(event_at(trace, at, kind), s)
+    chip::event::refused(row, s, cells, counts, event_at(trace, at, kind))
 }
 
 // One record's turn: its number, the bytes taken and the records done then, and the state.
@@ -114,18 +125,21 @@ pub fn one(
     cells: &mut [u8],
     identification: &mut [u8],
     latch: &mut [u8],
+    counts: &mut [u16],
     trace: &[u8],
     answers: &mut [u8],
     at: usize,
     n: usize,
 ) -> Turn
-    requires { ⌜ (Widths row) × (Sound row (worldOf s (now cells) (now identification) (now latch))) × (Lent row (worldOf s (now cells) (now identification) (now latch))) ⌝ }
+    requires { ⌜
+        (Widths row) × (Sound row (worldOf s (now cells) (now identification) (now latch) (now counts)))
+        × (Lent row (worldOf s (now cells) (now identification) (now latch) (now counts))) ⌝ }
     requires { ⌜ at < length (now trace) ⌝ }
     ensures { λ r. ⌜
-        progressOf (r .number) (r .taken) (r .done) (worldOf (r .state) (now (cells .exit)) (now (identification .exit)) (now (latch .exit))) (now (answers .exit))
-        ≡ turn row (now (trace .entry)) (progressOf 0 at n (worldOf s (now (cells .entry)) (now (identification .entry)) (now (latch .entry))) (now (answers .entry))) ⌝ }
+        progressOf (r .number) (r .taken) (r .done) (worldOf (r .state) (now (cells .exit)) (now (identification .exit)) (now (latch .exit)) (now (counts .exit))) (now (answers .exit))
+        ≡ turn row (now (trace .entry)) (progressOf 0 at n (worldOf s (now (cells .entry)) (now (identification .entry)) (now (latch .entry)) (now (counts .entry))) (now (answers .entry))) ⌝ }
 {
-    let number = refused(trace, at, answers.len() <= n, s);
+    let number = refused(row, s, cells, counts, trace, at, answers.len() <= n);
     if number != 0 {
         return Turn {
             number: number,
@@ -139,7 +153,7 @@ pub fn one(
     let event = event_at(trace, at, kind);
     let next = at + 2 + size;
     let done = n + 1;
-    let t = chip::event::step(row, s, cells, identification, latch, event);
+    let t = chip::event::step(row, s, cells, identification, latch, counts, event);
     answers[n] = chip::event::answer(t);
     Turn {
         number: 0,

@@ -12,7 +12,7 @@ use Rattle.rules.specs.declared.State.{State}
 use Rattle.rules.specs.World.{if_then_else_, withStored, worldOf}
 use Rattle.rules.specs.Device.{Widths}
 use Rattle.rules.specs.Instruction.{changes}
-use Rattle.rules.specs.Cycle.{written, ends, waitedState, waited}
+use Rattle.rules.specs.Cycle.{written, recounted, ends, waitedState, waited}
 use Rattle.rules.specs.Sound.{SoundCycle}
 use Rattle.rules.proofs.Choice.{and-right, or-left}
 
@@ -50,28 +50,37 @@ has-page v k h {c} ec long e =
     let of = ap (λ (x : Change). x .identification) (sym ec) ∙ and-right (c .runs && long) (c .identification) e in
     v .whole (h .hasPage (or-left (changes k .identification) (changes k .lock) of))
 
--- The lists after a wait, by what the cycle changes.
-module _ (row : Row) (s t : State) (n : ℕ) (cells identification latch : List ℕ) (c : Change) (ec : c ≡ changes (s .cycle .kind)) (et : t ≡ waitedState n s) where
+-- What the code asks of its table, asked of the rules'.
+module _ (s : State) (n : ℕ) {c : Change} (ec : c ≡ changes (s .cycle .kind)) where
   to-cells : (b : Bool) → (c .runs && leb (s .place .left) n && c .cells) ≡ b → (ends n s && changes (s .cycle .kind) .cells) ≡ b
   to-cells b h = ap (λ (x : Change). x .runs && leb (s .place .left) n && x .cells) (sym ec) ∙ h
 
   to-page : (b : Bool) → (c .runs && leb (s .place .left) n && c .identification) ≡ b → (ends n s && changes (s .cycle .kind) .identification) ≡ b
   to-page b h = ap (λ (x : Change). x .runs && leb (s .place .left) n && x .identification) (sym ec) ∙ h
 
-  pub wait-cells : (m : List ℕ) → (c .runs && leb (s .place .left) n && c .cells) ≡ true → m ≡ written (row .page) (row .page) latch (s .place .start) cells
-      → worldOf t m identification latch ≡ waited row n (worldOf s cells identification latch)
-  unfolding waited
-  wait-cells m h em =
-      let e = to-cells true h in
-      let none = and-none (ends n s) (changes (s .cycle .kind) .identification) (one-list (s .cycle .kind) (and-right (ends n s) (changes (s .cycle .kind) .cells) e)) in
-      rw (et, em, e, none)
+  -- Whether a wait ends on a wrong count.
+  pub ends-wrong : {wrong m : Bool} → (c .runs && leb (s .place .left) n && c .cells) ≡ true → m ≡ wrong → m ≡ (ends n s && changes (s .cycle .kind) .cells && wrong)
+  ends-wrong {wrong} h em = em ∙ sym (ap (λ (b : Bool). b && wrong) (to-cells true h))
 
-  pub wait-page : (m : List ℕ) → (c .runs && leb (s .place .left) n && c .cells) ≡ false → (c .runs && leb (s .place .left) n && c .identification) ≡ true
-      → m ≡ written (row .page) (row .page) latch 0 identification → worldOf t cells m latch ≡ waited row n (worldOf s cells identification latch)
+  pub ends-not : (wrong : Bool) → (c .runs && leb (s .place .left) n && c .cells) ≡ false → false ≡ (ends n s && changes (s .cycle .kind) .cells && wrong)
+  ends-not wrong h = sym (ap (λ (b : Bool). b && wrong) (to-cells false h))
+
+-- The lists after a wait, by what the cycle changes.
+module _ (row : Row) (s t : State) (n : ℕ) (cells identification latch counts : List ℕ) {c : Change} (ec : c ≡ changes (s .cycle .kind)) (et : t ≡ waitedState n s) where
+  pub wait-cells : {m k : List ℕ} → (c .runs && leb (s .place .left) n && c .cells) ≡ true → m ≡ written (row .page) (row .page) latch (s .place .start) cells
+      → k ≡ recounted row (s .place .start) m counts → worldOf t m identification latch k ≡ waited row n (worldOf s cells identification latch counts)
   unfolding waited
-  wait-page m g h em = rw (et, em, to-cells false g, to-page true h)
+  wait-cells h em ek =
+      let e = to-cells s n ec true h in
+      let none = and-none (ends n s) (changes (s .cycle .kind) .identification) (one-list (s .cycle .kind) (and-right (ends n s) (changes (s .cycle .kind) .cells) e)) in
+      rw (et, ek, em, e, none)
+
+  pub wait-page : {m : List ℕ} → (c .runs && leb (s .place .left) n && c .cells) ≡ false → (c .runs && leb (s .place .left) n && c .identification) ≡ true
+      → m ≡ written (row .page) (row .page) latch 0 identification → worldOf t cells m latch counts ≡ waited row n (worldOf s cells identification latch counts)
+  unfolding waited
+  wait-page g h em = rw (et, em, to-cells s n ec false g, to-page s n ec true h)
 
   pub wait-none : (c .runs && leb (s .place .left) n && c .cells) ≡ false → (c .runs && leb (s .place .left) n && c .identification) ≡ false
-      → worldOf t cells identification latch ≡ waited row n (worldOf s cells identification latch)
+      → worldOf t cells identification latch counts ≡ waited row n (worldOf s cells identification latch counts)
   unfolding waited
-  wait-none g h = rw (et, to-cells false g, to-page false h)
+  wait-none g h = rw (et, to-cells s n ec false g, to-page s n ec false h)

@@ -50,6 +50,9 @@ impl Mistaken<'_> {
                 self.marks_before = self.chip.marks.to_vec();
                 self.chip.marks.fill(1);
             }
+            (Fault::CountLeftAtCycleEnd | Fault::CountAddsMarkedBytes, Event::Wait(_)) => {
+                self.note_count();
+            }
             _ => {}
         }
     }
@@ -107,6 +110,7 @@ impl Mistaken<'_> {
     }
 
     fn after_cycle(&mut self, was: &State) {
+        self.after_change(was);
         let state = &mut *self.chip.state;
         match self.fault {
             Fault::CycleEndKeepsWel => state.write_enable_latch = was.write_enable_latch,
@@ -124,6 +128,7 @@ impl Mistaken<'_> {
             Fault::PowerClearsStatus => state.status = 0,
             Fault::PowerUnlocks => state.locked = false,
             Fault::PowerRaisesSelect => state.select = true,
+            Fault::CountClearedByPower => self.chip.counts.fill(0),
             Fault::PowerKeepsSelection => {
                 *state = was.clone();
                 state.write_enable_latch = false;
@@ -171,6 +176,7 @@ impl Mistaken<'_> {
             | (Fault::IdentificationChangesAtSelectRise, Cycle::Identification)
             | (Fault::StatusChangesAtSelectRise, Cycle::Status)
             | (Fault::LockChangesAtSelectRise, Cycle::Lock) => self.chip.make_change(),
+            (_, Cycle::Array) => self.after_array_cycle_started(),
             _ => {}
         }
     }

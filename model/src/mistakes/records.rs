@@ -16,9 +16,10 @@ impl Mistaken<'_> {
         let (mut done, mut taken) = (0, 0);
         let mut number = Number::Done;
         while done < limit && taken < trace.len() {
-            match self.judge_record(&trace[taken..], done < answers.len()) {
-                Ok((event, bytes)) => {
-                    answers[done] = self.event(event) as u8;
+            let record = self.judge_record(&trace[taken..], done < answers.len());
+            match record.and_then(|(event, bytes)| Ok((self.try_event(event)?, bytes))) {
+                Ok((answer, bytes)) => {
+                    answers[done] = answer as u8;
                     done += 1;
                     taken += bytes;
                 }
@@ -34,9 +35,10 @@ impl Mistaken<'_> {
                 answers[done] = Output::Z as u8;
             }
             Fault::LookPastLimit if taken < trace.len() && number == Number::Done => {
-                number = judge_record(&self.chip, &trace[taken..], true)
-                    .err()
-                    .unwrap_or(Number::Done);
+                number = match judge_record(&trace[taken..], true) {
+                    Ok((event, _)) => self.refusal(event).unwrap_or(Number::Done),
+                    Err(refused) => refused,
+                };
             }
             Fault::TailIsEnd if trace.len() - taken < HEAD => number = Number::Done,
             _ => {}
@@ -59,7 +61,7 @@ impl Mistaken<'_> {
         if has_room && is_power(&start[..size]) {
             self.end_cycle_at_power();
         }
-        judge_record(&self.chip, &start[..size], has_room)
+        judge_record(&start[..size], has_room)
     }
 
     /// Changes the bytes of a record to those that a mistaken reader sees.

@@ -12,6 +12,7 @@ pub struct Board {
     pub cells: Vec<u8>,
     pub identification: Vec<u8>,
     pub latch: Vec<u8>,
+    pub counts: Vec<u16>,
 }
 
 /// C high and C low, for readable lists of events.
@@ -35,7 +36,14 @@ impl Board {
         let mut cells = vec![0; device.cells];
         let mut identification = vec![0; device.identification];
         let mut latch = vec![0; 2 * device.page];
-        let (done, state) = prepare(number, &mut cells, &mut identification, &mut latch);
+        let mut counts = vec![7; device.pages()];
+        let (done, state) = prepare(
+            number,
+            &mut cells,
+            &mut identification,
+            &mut latch,
+            &mut counts,
+        );
         assert_eq!(done, Number::Done);
         Board {
             device,
@@ -43,6 +51,7 @@ impl Board {
             cells,
             identification,
             latch,
+            counts,
         }
     }
 
@@ -54,6 +63,7 @@ impl Board {
             &mut self.cells,
             &mut self.identification,
             &mut self.latch,
+            &mut self.counts,
             happening,
         )
     }
@@ -66,6 +76,7 @@ impl Board {
             &mut self.cells,
             &mut self.identification,
             &mut self.latch,
+            &mut self.counts,
             trace,
             answers,
             limit,

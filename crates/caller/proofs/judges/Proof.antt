@@ -21,23 +21,30 @@ slice-aggregate-world-refused-2 c = search needs
 slice-aggregate-world-refused-3 : tie.Need-slice-aggregate-world-refused-3
 slice-aggregate-world-refused-3 c = search needs
 
+slice-aggregate-world-refused-4 : tie.Need-slice-aggregate-world-refused-4
+slice-aggregate-world-refused-4 c = search needs
+
 world-refused-requires : tie.Need-world-refused-requires
 world-refused-requires c κs = search needs
 
 expect-requires : tie.Need-expect-requires
 unfolding memoryRefusal lentRefusal worldRefusal isSound clauses
 expect-requires c κs =
-    let prepared = c .before .before .before .before .prepared-state in
+    let at-prepared-state = c .before .before .before .before .before in
+    let prepared = at-prepared-state .prepared-state in
     eq-eqb _ 0 (c .world-refused .ensures ∙ ap (λ (s : State). worldRefusal 1 (lent s)) (prepared .ensures))
-
-slice-aggregate-world-refused-4 : tie.Need-slice-aggregate-world-refused-4
-slice-aggregate-world-refused-4 c = search needs
 
 slice-aggregate-world-refused-5 : tie.Need-slice-aggregate-world-refused-5
 slice-aggregate-world-refused-5 c = search needs
 
 slice-aggregate-world-refused-6 : tie.Need-slice-aggregate-world-refused-6
 slice-aggregate-world-refused-6 c = search needs
+
+slice-aggregate-world-refused-7 : tie.Need-slice-aggregate-world-refused-7
+slice-aggregate-world-refused-7 c = search needs
+
+slice-aggregate-world-refused-8 : tie.Need-slice-aggregate-world-refused-8
+slice-aggregate-world-refused-8 c = search needs
 
 world-refused-requires-2 : tie.Need-world-refused-requires-2
 world-refused-requires-2 c κs = search needs
@@ -57,11 +64,13 @@ judges-spec =
     slice-aggregate-world-refused
     slice-aggregate-world-refused-2
     slice-aggregate-world-refused-3
+    slice-aggregate-world-refused-4
     world-refused-requires
     expect-requires
-    slice-aggregate-world-refused-4
     slice-aggregate-world-refused-5
     slice-aggregate-world-refused-6
+    slice-aggregate-world-refused-7
+    slice-aggregate-world-refused-8
     world-refused-requires-2
     expect-requires-2
     returns)

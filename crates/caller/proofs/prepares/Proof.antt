@@ -15,17 +15,18 @@ slice-aggregate-prepare-2 c = search needs
 slice-aggregate-prepare-3 : tie.Need-slice-aggregate-prepare-3
 slice-aggregate-prepare-3 c = search needs
 
+slice-aggregate-prepare-4 : tie.Need-slice-aggregate-prepare-4
+slice-aggregate-prepare-4 c = search needs
+
 prepare-requires : tie.Need-prepare-requires
 prepare-requires c κs = search needs
 
 expect-requires : tie.Need-expect-requires
 unfolding memoryRefusal lentRefusal prepareOutcome
 expect-requires c κs =
-    let good = c .before .before .before .before .prepare in
+    let at-prepare = c .before .before .before .before .before in
+    let good = at-prepare .prepare in
     eq-eqb _ 0 (ap (λ (x : Prepared). x .number) (good .ensures))
-
-slice-aggregate-prepare-4 : tie.Need-slice-aggregate-prepare-4
-slice-aggregate-prepare-4 c = search needs
 
 slice-aggregate-prepare-5 : tie.Need-slice-aggregate-prepare-5
 slice-aggregate-prepare-5 c = search needs
@@ -33,13 +34,20 @@ slice-aggregate-prepare-5 c = search needs
 slice-aggregate-prepare-6 : tie.Need-slice-aggregate-prepare-6
 slice-aggregate-prepare-6 c = search needs
 
+slice-aggregate-prepare-7 : tie.Need-slice-aggregate-prepare-7
+slice-aggregate-prepare-7 c = search needs
+
+slice-aggregate-prepare-8 : tie.Need-slice-aggregate-prepare-8
+slice-aggregate-prepare-8 c = search needs
+
 prepare-requires-2 : tie.Need-prepare-requires-2
 prepare-requires-2 c κs = search needs
 
 expect-requires-2 : tie.Need-expect-requires-2
 unfolding memoryRefusal lentRefusal prepareOutcome
 expect-requires-2 c κs =
-    let bad = c .before .before .before .before .prepare2 in
+    let at-prepare2 = c .before .before .before .before .before in
+    let bad = at-prepare2 .prepare2 in
     eq-eqb _ 1 (ap (λ (x : Prepared). x .number) (bad .ensures))
 
 returns : tie.Need-returns
@@ -52,11 +60,13 @@ prepares-spec =
     slice-aggregate-prepare
     slice-aggregate-prepare-2
     slice-aggregate-prepare-3
+    slice-aggregate-prepare-4
     prepare-requires
     expect-requires
-    slice-aggregate-prepare-4
     slice-aggregate-prepare-5
     slice-aggregate-prepare-6
+    slice-aggregate-prepare-7
+    slice-aggregate-prepare-8
     prepare-requires-2
     expect-requires-2
     returns)

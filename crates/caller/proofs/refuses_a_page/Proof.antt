@@ -15,13 +15,16 @@ slice-aggregate-prepare-2 c = search needs
 slice-aggregate-prepare-3 : tie.Need-slice-aggregate-prepare-3
 slice-aggregate-prepare-3 c = search needs
 
+slice-aggregate-prepare-4 : tie.Need-slice-aggregate-prepare-4
+slice-aggregate-prepare-4 c = search needs
+
 prepare-requires : tie.Need-prepare-requires
 prepare-requires c κs = search needs
 
 expect-requires : tie.Need-expect-requires
 unfolding memoryRefusal lentRefusal prepareOutcome
 expect-requires c κs =
-    let at-prepare = c .before .before .before .before in
+    let at-prepare = c .before .before .before .before .before in
     eq-eqb _ 3 (ap (λ (x : Prepared). x .number) (at-prepare .prepare .ensures))
 
 returns : tie.Need-returns
@@ -34,6 +37,7 @@ refuses-a-page-spec =
     slice-aggregate-prepare
     slice-aggregate-prepare-2
     slice-aggregate-prepare-3
+    slice-aggregate-prepare-4
     prepare-requires
     expect-requires
     returns)

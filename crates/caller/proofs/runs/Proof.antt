@@ -34,32 +34,35 @@ slice-aggregate-run-4 c = search needs
 slice-aggregate-run-5 : tie.Need-slice-aggregate-run-5
 slice-aggregate-run-5 c = search needs
 
+slice-aggregate-run-6 : tie.Need-slice-aggregate-run-6
+slice-aggregate-run-6 c = search needs
+
 run-requires : tie.Need-run-requires
 run-requires c κs = search needs
 
 expect-requires : tie.Need-expect-requires
 unfolding memoryRefusal lentRefusal worldRefusal runOutcome isSound clauses step react turn recordRefusal eventAt
 expect-requires c κs =
-    let at-run = c .before .before .before .before .before in
-    let prepared = at-run .before .before .before .before .before .before .prepared-state in
+    let at-run = c .before .before .before .before .before .before in
+    let at-prepared-state = at-run .before .before .before .before .before .before .before in
+    let prepared = at-prepared-state .prepared-state in
     eq-eqb _ 0 (ap (λ (x : Progress). x .number) (at-run .run .ensures ∙ ap ran (prepared .ensures)))
 
 expect-requires-2 : tie.Need-expect-requires-2
 unfolding memoryRefusal lentRefusal worldRefusal runOutcome isSound clauses step react turn recordRefusal eventAt
 expect-requires-2 c κs =
-    let at-run = c .before .before .before .before .before .before .before in
-    let prepared = at-run .before .before .before .before .before .before .prepared-state in
+    let at-run = c .before .before .before .before .before .before .before .before in
+    let at-prepared-state = at-run .before .before .before .before .before .before .before in
+    let prepared = at-prepared-state .prepared-state in
     eq-eqb _ 1 (ap (λ (x : Progress). x .done) (at-run .run .ensures ∙ ap ran (prepared .ensures)))
 
 expect-requires-3 : tie.Need-expect-requires-3
 unfolding memoryRefusal lentRefusal worldRefusal runOutcome isSound clauses step react turn recordRefusal eventAt
 expect-requires-3 c κs =
-    let at-run = c .before .before .before .before .before .before .before .before .before in
-    let prepared = at-run .before .before .before .before .before .before .prepared-state in
+    let at-run = c .before .before .before .before .before .before .before .before .before .before in
+    let at-prepared-state = at-run .before .before .before .before .before .before .before in
+    let prepared = at-prepared-state .prepared-state in
     eq-eqb _ 5 (ap (λ (x : Progress). x .taken) (at-run .run .ensures ∙ ap ran (prepared .ensures)))
-
-slice-aggregate-run-6 : tie.Need-slice-aggregate-run-6
-slice-aggregate-run-6 c = search needs
 
 slice-aggregate-run-7 : tie.Need-slice-aggregate-run-7
 slice-aggregate-run-7 c = search needs
@@ -73,19 +76,27 @@ slice-aggregate-run-9 c = search needs
 slice-aggregate-run-10 : tie.Need-slice-aggregate-run-10
 slice-aggregate-run-10 c = search needs
 
+slice-aggregate-run-11 : tie.Need-slice-aggregate-run-11
+slice-aggregate-run-11 c = search needs
+
+slice-aggregate-run-12 : tie.Need-slice-aggregate-run-12
+slice-aggregate-run-12 c = search needs
+
 run-requires-2 : tie.Need-run-requires-2
 run-requires-2 c κs = search needs
 
 expect-requires-4 : tie.Need-expect-requires-4
 unfolding memoryRefusal lentRefusal worldRefusal runOutcome
 expect-requires-4 c κs =
-    let refused = c .before .before .before .before .before .run2 in
+    let at-run2 = c .before .before .before .before .before .before in
+    let refused = at-run2 .run2 in
     eq-eqb _ 1 (ap (λ (x : Progress). x .number) (refused .ensures))
 
 expect-requires-5 : tie.Need-expect-requires-5
 unfolding memoryRefusal lentRefusal worldRefusal runOutcome
 expect-requires-5 c κs =
-    let refused = c .before .before .before .before .before .before .before .run2 in
+    let at-run2 = c .before .before .before .before .before .before .before .before in
+    let refused = at-run2 .run2 in
     eq-eqb _ 0 (ap (λ (x : Progress). x .done) (refused .ensures))
 
 returns : tie.Need-returns
@@ -101,15 +112,17 @@ runs-spec =
     slice-aggregate-run-3
     slice-aggregate-run-4
     slice-aggregate-run-5
+    slice-aggregate-run-6
     run-requires
     expect-requires
     expect-requires-2
     expect-requires-3
-    slice-aggregate-run-6
     slice-aggregate-run-7
     slice-aggregate-run-8
     slice-aggregate-run-9
     slice-aggregate-run-10
+    slice-aggregate-run-11
+    slice-aggregate-run-12
     run-requires-2
     expect-requires-4
     expect-requires-5

@@ -16,9 +16,10 @@ lent-refused-requires c κs = search needs
 
 returns : tie.Need-returns
 returns c =
-    let given = c .before .before .before .before .before .args in
+    let start = c .before .before .before .before .before .before in
+    let given = start .args in
     let judged = c .before .lent-refused in
-    world-lent (given .device) (worldOf (given .s) (given .cells .now) (given .identification .now) (given .latch .now)) (judged .result)
+    world-lent (given .device) (worldOf (given .s) (given .cells .now) (given .identification .now) (given .latch .now) (given .counts .now)) (judged .result)
     (judged .ensures) (c .if1 .taken)
 
 row-of-requires : tie.Need-row-of-requires
@@ -26,29 +27,34 @@ row-of-requires c κs = search needs
 
 is-sound-requires : tie.Need-is-sound-requires
 is-sound-requires c κs =
-    let given = c .before .before .before .before .before .before .args in
+    let start = c .before .before .before .before .before .before .before in
+    let given = start .args in
     let row = c .row-of in
     let good = sym (c .before .before .lent-refused .ensures) ∙ c .before .if1 .left in
-    let whole = lent-fine (given .device) (given .s) (given .cells .now) (given .identification .now) (given .latch .now) good in
+    let whole = lent-fine (given .device) (given .s) (given .cells .now) (given .identification .now) (given .latch .now) (given .counts .now) good in
     let twice = subst (λ (x : Row). length (given .latch .now) ≡ x .page + x .page) (sym (row .ensures)) (whole .latch) in
     (row-widths (given .device) (row .result) (row .ensures), twice)
 
 returns-2 : tie.Need-returns-2
 returns-2 c =
-    let given = c .before .before .before .before .before .before .before .before .args in
-    let judged = c .before .before .before .before .lent-refused in
+    let at-lent-refused = c .before .before .before .before in
+    let start = at-lent-refused .before .before .before .before .before in
+    let given = start .args in
+    let judged = at-lent-refused .lent-refused in
     let row = c .before .before .row-of in
     let sound = c .before .is-sound in
-    world-good (given .device) (worldOf (given .s) (given .cells .now) (given .identification .now) (given .latch .now)) (judged .result)
+    world-good (given .device) (worldOf (given .s) (given .cells .now) (given .identification .now) (given .latch .now) (given .counts .now)) (judged .result)
     (judged .ensures) (c .before .before .before .if1 .left) (row .result) (row .ensures) (sound .result) (sound .ensures) (c .if2 .taken)
 
 returns-3 : tie.Need-returns-3
 returns-3 c =
-    let given = c .before .before .before .before .before .before .before .before .args in
-    let judged = c .before .before .before .before .lent-refused in
+    let at-lent-refused = c .before .before .before .before in
+    let start = at-lent-refused .before .before .before .before .before in
+    let given = start .args in
+    let judged = at-lent-refused .lent-refused in
     let row = c .before .before .row-of in
     let sound = c .before .is-sound in
-    world-unsound (given .device) (worldOf (given .s) (given .cells .now) (given .identification .now) (given .latch .now)) (judged .result)
+    world-unsound (given .device) (worldOf (given .s) (given .cells .now) (given .identification .now) (given .latch .now) (given .counts .now)) (judged .result)
     (judged .ensures) (c .before .before .before .if1 .left) (row .result) (row .ensures) (sound .result) (sound .ensures) (c .if2 .left)
 
 pub world-refused-spec : {M : Type 1} → statement M

@@ -29,16 +29,17 @@ same-length-3 c = search needs
 same-length-4 : tie.Need-same-length-4
 same-length-4 c = search needs
 
-returns : tie.Need-returns
-returns c =
-    let given = c .before .before .before .before .before .before .before .before .before .before .before .before .before .args in
-    let device = c .before .before .before .before .before .before .before .before .device-of in
-    let read = c .before .before .before .before .before .before .state-of in
-    event-whole (given .device) (device .ensures) (buffersOf (given .state .now) (given .cells .now) (given .identification .now) (given .latch .now))
-    (read .ensures) (c .before .world-refused .ensures) (given .kind) (given .value) (c .if1 .taken)
-
 same-length-5 : tie.Need-same-length-5
 same-length-5 c = search needs
+
+returns : tie.Need-returns
+returns c =
+    let at-state-of = c .before .before .before .before .before .before .before in
+    let at-device-of = at-state-of .before .before in
+    let start = at-device-of .before .before .before .before .before .before in
+    let given = start .args in
+    let lent = buffersOf (given .state .now) (given .cells .now) (given .identification .now) (given .latch .now) (given .counts .now) in
+    event-whole (given .device) (at-device-of .device-of .ensures) lent (at-state-of .state-of .ensures) (c .before .world-refused .ensures) (given .kind) (given .value) (c .if1 .taken)
 
 same-length-6 : tie.Need-same-length-6
 same-length-6 c = search needs
@@ -49,14 +50,22 @@ same-length-7 c = search needs
 same-length-8 : tie.Need-same-length-8
 same-length-8 c = search needs
 
+same-length-9 : tie.Need-same-length-9
+same-length-9 c = search needs
+
+same-length-10 : tie.Need-same-length-10
+same-length-10 c = search needs
+
 returns-2 : tie.Need-returns-2
 returns-2 c =
-    let given = c .before .before .before .before .before .before .before .before .before .before .before .before .before .before .args in
-    let device = c .before .before .before .before .before .before .before .before .before .device-of in
-    let read = c .before .before .before .before .before .before .before .state-of in
-    let asked = c .before .before .before .before .before .before .event-refused in
-    event-bad (given .device) (device .ensures) (buffersOf (given .state .now) (given .cells .now) (given .identification .now) (given .latch .now))
-    (read .ensures) (c .before .before .world-refused .ensures) (given .kind) (given .value) (c .before .if1 .left) (asked .ensures) (c .if2 .taken)
+    let at-event-refused = c .before .before .before .before .before .before .before in
+    let at-state-of = at-event-refused .before in
+    let at-device-of = at-state-of .before .before in
+    let start = at-device-of .before .before .before .before .before .before in
+    let given = start .args in
+    let lent = buffersOf (given .state .now) (given .cells .now) (given .identification .now) (given .latch .now) (given .counts .now) in
+    event-bad (given .device) (at-device-of .device-of .ensures) lent (at-state-of .state-of .ensures) (c .before .before .world-refused .ensures) (given .kind) (given .value) (c .before .if1 .left)
+    (at-event-refused .event-refused .ensures) (c .if2 .taken)
 
 event-of-requires : tie.Need-event-of-requires
 event-of-requires c κs = search needs
@@ -64,41 +73,11 @@ event-of-requires c κs = search needs
 event-requires : tie.Need-event-requires
 event-requires c κs = search needs
 
-same-length-9 : tie.Need-same-length-9
-same-length-9 c = search needs
-
-same-length-10 : tie.Need-same-length-10
-same-length-10 c = search needs
-
 same-length-11 : tie.Need-same-length-11
 same-length-11 c = search needs
 
 same-length-12 : tie.Need-same-length-12
 same-length-12 c = search needs
-
-returns-3 : tie.Need-returns-3
-returns-3 c =
-    let at-event = c .before .before .before .before .before .before .before .before in
-    let given = at-event .before .before .before .before .before .before .before .before .before .before .before .before .before .before .before .before .before .before .before .args in
-    let device = at-event .before .before .before .before .before .before .before .before .before .before .before .before .before .before .device-of in
-    let read = at-event .before .before .before .before .before .before .before .before .before .before .before .before .state-of in
-    let asked = at-event .before .before .before .before .before .before .before .before .before .before .before .event-refused in
-    let judged = at-event .before .before .before .before .before .before .before .world-refused in
-    let whole = at-event .before .before .before .before .before .before .if1 .left in
-    let good = at-event .before .before .before .before .before .if2 .left in
-    event-refused (given .device) (device .ensures) (buffersOf (given .state .now) (given .cells .now) (given .identification .now) (given .latch .now))
-    (read .ensures) (judged .ensures) (given .kind) (given .value) whole (asked .ensures) good (at-event .before .event-of .ensures) (at-event .event .ensures)
-    (c .if3 .taken)
-
-put-state-requires : tie.Need-put-state-requires
-put-state-requires c κs =
-    let at-event = c .before .before .before .before .before .before .before .before .before in
-    let given = at-event .before .before .before .before .before .before .before .before .before .before .before .before .before .before .before .before .before .before .before .args in
-    let device = at-event .before .before .before .before .before .before .before .before .before .before .before .before .before .before .device-of in
-    let read = at-event .before .before .before .before .before .before .before .before .before .before .before .before .state-of in
-    let judged = at-event .before .before .before .before .before .before .before .world-refused in
-    let whole = at-event .before .before .before .before .before .before .if1 .left in
-    state-long (device .result) (given .state .now) (given .cells .now) (given .identification .now) (given .latch .now) (read .ensures) (judged .ensures) whole
 
 same-length-13 : tie.Need-same-length-13
 same-length-13 c = search needs
@@ -109,23 +88,64 @@ same-length-14 c = search needs
 same-length-15 : tie.Need-same-length-15
 same-length-15 c = search needs
 
+returns-3 : tie.Need-returns-3
+returns-3 c =
+    let at-event = c .before .before .before .before .before .before .before .before .before .before in
+    let at-event-of = at-event .before .before .before .before .before in
+    let at-if2 = at-event-of .before in
+    let at-if1 = at-if2 .before in
+    let at-world-refused = at-if1 .before in
+    let at-event-refused = at-world-refused .before .before .before .before .before in
+    let at-state-of = at-event-refused .before in
+    let at-device-of = at-state-of .before .before in
+    let start = at-device-of .before .before .before .before .before .before in
+    let given = start .args in
+    let lent = buffersOf (given .state .now) (given .cells .now) (given .identification .now) (given .latch .now) (given .counts .now) in
+    event-refused (given .device) (at-device-of .device-of .ensures) lent (at-state-of .state-of .ensures) (at-world-refused .world-refused .ensures) (given .kind) (given .value) (at-if1 .if1 .left)
+    (at-event-refused .event-refused .ensures) (at-if2 .if2 .left) (at-event-of .event-of .ensures) (at-event .event .ensures) (c .if3 .taken)
+
+put-state-requires : tie.Need-put-state-requires
+put-state-requires c κs =
+    let at-if1 = c .before .before .before .before .before .before .before .before .before .before .before .before .before .before .before .before .before .before in
+    let at-world-refused = at-if1 .before in
+    let at-state-of = at-world-refused .before .before .before .before .before .before in
+    let at-device-of = at-state-of .before .before in
+    let start = at-device-of .before .before .before .before .before .before in
+    let given = start .args in
+    let lent = buffersOf (given .state .now) (given .cells .now) (given .identification .now) (given .latch .now) (given .counts .now) in
+    state-long (at-device-of .device-of .result) lent (at-state-of .state-of .ensures) (at-world-refused .world-refused .ensures) (at-if1 .if1 .left)
+
 same-length-16 : tie.Need-same-length-16
 same-length-16 c = search needs
 
+same-length-17 : tie.Need-same-length-17
+same-length-17 c = search needs
+
+same-length-18 : tie.Need-same-length-18
+same-length-18 c = search needs
+
+same-length-19 : tie.Need-same-length-19
+same-length-19 c = search needs
+
+same-length-20 : tie.Need-same-length-20
+same-length-20 c = search needs
+
 returns-4 : tie.Need-returns-4
 returns-4 c =
-    let taken = c .before .before .before .before .if3 .left in
-    let at-event = c .before .before .before .before .before .before .before .before .before .before .before .before in
-    let given = at-event .before .before .before .before .before .before .before .before .before .before .before .before .before .before .before .before .before .before .before .args in
-    let device = at-event .before .before .before .before .before .before .before .before .before .before .before .before .before .before .device-of in
-    let read = at-event .before .before .before .before .before .before .before .before .before .before .before .before .state-of in
-    let asked = at-event .before .before .before .before .before .before .before .before .before .before .before .event-refused in
-    let judged = at-event .before .before .before .before .before .before .before .world-refused in
-    let whole = at-event .before .before .before .before .before .before .if1 .left in
-    let good = at-event .before .before .before .before .before .if2 .left in
-    event-done (given .device) (device .ensures) (buffersOf (given .state .now) (given .cells .now) (given .identification .now) (given .latch .now))
-    (read .ensures) (judged .ensures) (given .kind) (given .value) whole (asked .ensures) good (at-event .before .event-of .ensures) (at-event .event .ensures)
-    taken (c .before .before .put-state .ensures)
+    let at-if3 = c .before .before .before .before in
+    let at-event = at-if3 .before .before .before .before .before .before .before .before .before .before in
+    let at-event-of = at-event .before .before .before .before .before in
+    let at-if2 = at-event-of .before in
+    let at-if1 = at-if2 .before in
+    let at-world-refused = at-if1 .before in
+    let at-event-refused = at-world-refused .before .before .before .before .before in
+    let at-state-of = at-event-refused .before in
+    let at-device-of = at-state-of .before .before in
+    let start = at-device-of .before .before .before .before .before .before in
+    let given = start .args in
+    let lent = buffersOf (given .state .now) (given .cells .now) (given .identification .now) (given .latch .now) (given .counts .now) in
+    event-done (given .device) (at-device-of .device-of .ensures) lent (at-state-of .state-of .ensures) (at-world-refused .world-refused .ensures) (given .kind) (given .value) (at-if1 .if1 .left)
+    (at-event-refused .event-refused .ensures) (at-if2 .if2 .left) (at-event-of .event-of .ensures) (at-event .event .ensures) (at-if3 .if3 .left) (c .before .before .put-state .ensures)
 
 pub m95-event-spec : {M : Type 1} → statement M
 m95-event-spec =
@@ -139,22 +159,26 @@ m95-event-spec =
     same-length-2
     same-length-3
     same-length-4
-    returns
     same-length-5
+    returns
     same-length-6
     same-length-7
     same-length-8
+    same-length-9
+    same-length-10
     returns-2
     event-of-requires
     event-requires
-    same-length-9
-    same-length-10
     same-length-11
     same-length-12
-    returns-3
-    put-state-requires
     same-length-13
     same-length-14
     same-length-15
+    returns-3
+    put-state-requires
     same-length-16
+    same-length-17
+    same-length-18
+    same-length-19
+    same-length-20
     returns-4)

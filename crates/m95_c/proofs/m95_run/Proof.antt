@@ -26,29 +26,32 @@ same-length-3 c = search needs
 same-length-4 : tie.Need-same-length-4
 same-length-4 c = search needs
 
+same-length-5 : tie.Need-same-length-5
+same-length-5 c = search needs
+
 returns : tie.Need-returns
 returns c =
-    let given = c .before .before .before .before .before .before .before .before .before .before .before .before .before .before .args in
-    let device = c .before .before .before .before .before .before .before .device-of in
-    let read = c .before .before .before .before .before .state-of in
-    run-whole (given .device) (device .ensures) (buffersOf (given .state .now) (given .cells .now) (given .identification .now) (given .latch .now))
-    (read .ensures) (c .before .world-refused .ensures) (given .trace .now) (given .answers .now) (given .limit) (c .if1 .taken)
+    let at-state-of = c .before .before .before .before .before .before in
+    let at-device-of = at-state-of .before .before in
+    let start = at-device-of .before .before .before .before .before .before .before .before in
+    let given = start .args in
+    let lent = buffersOf (given .state .now) (given .cells .now) (given .identification .now) (given .latch .now) (given .counts .now) in
+    run-whole (given .device) (at-device-of .device-of .ensures) lent (at-state-of .state-of .ensures) (c .before .world-refused .ensures) (given .trace .now) (given .answers .now) (given .limit)
+    (c .if1 .taken)
 
 run-requires : tie.Need-run-requires
 run-requires c κs = search needs
 
 put-state-requires : tie.Need-put-state-requires
 put-state-requires c κs =
-    let at-run = c .before .before .before .before .before .before .before .before .before in
-    let given = at-run .before .before .before .before .before .before .before .before .before .before .before .before .before .before .before .before .before .before .before .args in
-    let device = at-run .before .before .before .before .before .before .before .before .before .before .before .before .device-of in
-    let read = at-run .before .before .before .before .before .before .before .before .before .before .state-of in
-    let judged = at-run .before .before .before .before .before .before .world-refused in
-    let whole = at-run .before .before .before .before .before .if1 .left in
-    state-long (device .result) (given .state .now) (given .cells .now) (given .identification .now) (given .latch .now) (read .ensures) (judged .ensures) whole
-
-same-length-5 : tie.Need-same-length-5
-same-length-5 c = search needs
+    let at-if1 = c .before .before .before .before .before .before .before .before .before .before .before .before .before .before .before .before .before in
+    let at-world-refused = at-if1 .before in
+    let at-state-of = at-world-refused .before .before .before .before .before in
+    let at-device-of = at-state-of .before .before in
+    let start = at-device-of .before .before .before .before .before .before .before .before in
+    let given = start .args in
+    let lent = buffersOf (given .state .now) (given .cells .now) (given .identification .now) (given .latch .now) (given .counts .now) in
+    state-long (at-device-of .device-of .result) lent (at-state-of .state-of .ensures) (at-world-refused .world-refused .ensures) (at-if1 .if1 .left)
 
 same-length-6 : tie.Need-same-length-6
 same-length-6 c = search needs
@@ -62,18 +65,25 @@ same-length-8 c = search needs
 same-length-9 : tie.Need-same-length-9
 same-length-9 c = search needs
 
+same-length-10 : tie.Need-same-length-10
+same-length-10 c = search needs
+
+same-length-11 : tie.Need-same-length-11
+same-length-11 c = search needs
+
 returns-2 : tie.Need-returns-2
 returns-2 c =
-    let at-run = c .before .before .before .before .before .before .before .before .before .before .before .before in
-    let given = at-run .before .before .before .before .before .before .before .before .before .before .before .before .before .before .before .before .before .before .before .args in
-    let device = at-run .before .before .before .before .before .before .before .before .before .before .before .before .device-of in
-    let read = at-run .before .before .before .before .before .before .before .before .before .before .state-of in
-    let judged = at-run .before .before .before .before .before .before .world-refused in
-    let whole = at-run .before .before .before .before .before .if1 .left in
-    run-left (given .device) (device .ensures) (buffersOf (given .state .now) (given .cells .now) (given .identification .now) (given .latch .now))
-    (read .ensures) (judged .ensures) (given .trace .now) (given .answers .now) (given .limit) whole
-    (at-run .run .ensures)
-    (c .before .before .put-state .ensures)
+    let at-run = c .before .before .before .before .before .before .before .before .before .before .before .before .before .before in
+    let at-if1 = at-run .before .before .before .before .before .before in
+    let at-world-refused = at-if1 .before in
+    let at-state-of = at-world-refused .before .before .before .before .before in
+    let at-device-of = at-state-of .before .before in
+    let start = at-device-of .before .before .before .before .before .before .before .before in
+    let given = start .args in
+    let lent = buffersOf (given .state .now) (given .cells .now) (given .identification .now) (given .latch .now) (given .counts .now) in
+    run-left (given .device) (at-device-of .device-of .ensures) lent (at-state-of .state-of .ensures) (at-world-refused .world-refused .ensures) (given .trace .now)
+    (given .answers .now) (given .limit)
+    (at-if1 .if1 .left) (at-run .run .ensures) (c .before .before .put-state .ensures)
 
 pub m95-run-spec : {M : Type 1} → statement M
 m95-run-spec =
@@ -86,12 +96,14 @@ m95-run-spec =
     same-length-2
     same-length-3
     same-length-4
+    same-length-5
     returns
     run-requires
     put-state-requires
-    same-length-5
     same-length-6
     same-length-7
     same-length-8
     same-length-9
+    same-length-10
+    same-length-11
     returns-2)

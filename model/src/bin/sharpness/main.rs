@@ -1,11 +1,13 @@
 //! `sharpness [SEEDS]` shows that generated traces notice mistakes: it runs the model with each named fault beside
 //! the right one, on short traces of all profiles and devices, and prints where each first shows. Mistakes of the bench
-//! program, of a view, of judging a state and of loading one, which no trace can show, are held to inputs of their own.
+//! program, of a view, of judging a state, of loading one, of a count that is wrong before and of lending counts, which
+//! no trace can show, are held to inputs of their own.
 //!
 //! `sharpness --stored DIR` does so with the vectors that `store` wrote to DIR.
 //!
 //! A fault that nothing shows ends the program with status 1, unless a reason for it is given here.
 
+mod counts;
 mod states;
 mod stored;
 mod views;
@@ -13,6 +15,7 @@ mod views;
 use std::process::ExitCode;
 use std::rc::Rc;
 
+use counts::Counted;
 use m95_model::generate::{
     bench_input, odd_bench_input, trace_with_tail, Profile, Random, ODD_BENCH_INPUTS, TAILS,
 };
@@ -74,12 +77,14 @@ fn show_generated(seeds: u64) -> usize {
         "{:<32} {:<10} {:>6} {:<14} {:>9} {:>7}  meaning",
         "fault", "profile", "device", "by", "records", "traces"
     );
-    let (inputs, views) = (bench_inputs(seeds), Views::new());
+    let (inputs, views, counted) = (bench_inputs(seeds), Views::new(), Counted::new());
     let is_seen = |fault: Fault| match fault {
         _ if fault.is_of_bench() => show_bench(fault, &inputs),
         _ if fault.is_of_view() => views.show(fault),
         _ if fault.is_of_state() => states::show_state(fault),
         _ if fault.is_of_load() => states::show_load(fault),
+        _ if fault.is_of_wrong_count() => counted.show(fault),
+        _ if fault.is_of_lent() => counts::show_lent(fault),
         _ => show(fault, &cases),
     };
     let missed = Fault::ALL.iter().filter(|fault| !is_seen(**fault)).count();
@@ -222,6 +227,8 @@ fn difference(
         "answer room"
     } else if right.latch != wrong.latch {
         "latch"
+    } else if right.counts != wrong.counts {
+        "counts"
     } else {
         return None;
     };

@@ -15,10 +15,16 @@ const LIMIT: &str = "only the limit shows it, which a vector never reaches";
 const VIEW: &str = "only a view shows it, which a vector does not hold";
 const STATE: &str = "only a state that no trace reaches shows it, which a vector does not hold";
 const LOAD: &str = "only a load shows it, which a vector does not start with";
+const COUNTS: &str =
+    "only the counts or a second write to a page show it, and a vector has neither";
+const FILE: &str =
+    "only cells that a chip's file brings show it, which a vector does not start with";
+const WRONG: &str = "only a wrong count shows it, which a vector does not start with";
+const LENT: &str = "only preparing or the counts' length shows it, which a vector does not hold";
 const BENCH: &str = "only the bench program shows it, which a vector does not run";
 
 /// Faults that no vector can notice, and why.
-const UNNOTICED: [(Fault, &str); 13] = [
+const UNNOTICED: [(Fault, &str); 21] = [
     (Fault::CycleEndClearsMarks, LATCH),
     (Fault::MarksClearedOnlyWithWel, LATCH),
     (Fault::LatchDataCleared, LATCH),
@@ -32,6 +38,14 @@ const UNNOTICED: [(Fault, &str); 13] = [
     (Fault::LookPastLimit, LIMIT),
     (Fault::StoredBitsWithWel, BITS),
     (Fault::StoredBitsAreNew, BITS),
+    (Fault::CountInByte, COUNTS),
+    (Fault::CountSkipsZero, COUNTS),
+    (Fault::CountLeftAtCycleEnd, COUNTS),
+    (Fault::CountAddsMarkedBytes, COUNTS),
+    (Fault::CountSetAtSelectRise, COUNTS),
+    (Fault::CountSetByIdentificationCycle, COUNTS),
+    (Fault::CountClearedByPower, COUNTS),
+    (Fault::CountOfFileIsBlank, FILE),
 ];
 
 /// Prints the table and gives the number of faults that were missed without a reason, or what is wrong with the
@@ -82,6 +96,8 @@ fn elsewhere(fault: Fault) -> Option<&'static str> {
         _ if fault.is_of_view() => Some(VIEW),
         _ if fault.is_of_state() => Some(STATE),
         _ if fault.is_of_load() => Some(LOAD),
+        _ if fault.is_of_wrong_count() => Some(WRONG),
+        _ if fault.is_of_lent() => Some(LENT),
         _ => None,
     }
 }

@@ -11,9 +11,9 @@ use Rattle.bench.proofs.program.bench_text.Statement.{statement}
 use Rattle.bench.proofs.program.bench_text.Tie as tie
 
 -- The input's first record names a device, from where it is not refused.
-taken : (at : tie.Else1) → Named (at .before .before .before .before .before .before .before .before .args .input .now)
+taken : (at : tie.Else1) → Named (at .before .before .before .before .before .before .before .before .before .args .input .now)
 taken at =
-    let start = at .before .before .before .before .before .before .before .before in
+    let start = at .before .before .before .before .before .before .before .before .before in
     named (start .args .input .now) (sym (at .before .first-refused .ensures) ∙ at .if1 .left)
 
 first-refused-requires : tie.Need-first-refused-requires
@@ -31,7 +31,7 @@ same-length c = search needs
 returns : tie.Need-returns
 returns c =
     let refused = c .before .before .before .before .before in
-    let start = refused .before .before .before .before .before .before .before .before in
+    let start = refused .before .before .before .before .before .before .before .before .before in
     let text = whole _ _ _ _ (c .before .before .put-end .ensures) in
     (text .0, text .1 ∙ text-refused (start .args .input .now) (refused .before .first-refused .ensures) (refused .if1 .taken))
 
@@ -49,8 +49,8 @@ part-put-trace-end c = search needs
 
 put-trace-requires : tie.Need-put-trace-requires
 put-trace-requires c κs =
-    let good = c .before .before .before .before .before .before .before in
-    let start = good .before .before .before .before .before .before .before .before in
+    let good = c .before .before .before .before .before .before .before .before in
+    let start = good .before .before .before .before .before .before .before .before .before in
     let input = start .args .input .now in
     let n = taken good in
     let rest = length-take-le (length input - 5) (drop 5 input) (omega (arith, length-drop 5 input)) in
@@ -71,11 +71,14 @@ same-length-5 c = search needs
 same-length-6 : tie.Need-same-length-6
 same-length-6 c = search needs
 
+same-length-7 : tie.Need-same-length-7
+same-length-7 c = search needs
+
 returns-2 : tie.Need-returns-2
 returns-2 c =
-    let put = c .before .before .before .before .before .before .before .before .before .before in
-    let good = put .before .before .before .before .before .before .before .before in
-    let start = good .before .before .before .before .before .before .before .before in
+    let put = c .before .before .before .before .before .before .before .before .before .before .before .before in
+    let good = put .before .before .before .before .before .before .before .before .before in
+    let start = good .before .before .before .before .before .before .before .before .before in
     let input = start .args .input .now in
     let text = whole _ _ _ _ (put .put-trace .ensures) in
     let all = take-all (length input - 5) (drop 5 input) (omega (arith, length-drop 5 input)) in
@@ -100,4 +103,5 @@ bench-text-spec =
     same-length-4
     same-length-5
     same-length-6
+    same-length-7
     returns-2)

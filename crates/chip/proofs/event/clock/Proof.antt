@@ -22,8 +22,9 @@ returns : tie.Need-returns
 returns c =
     let at-rise = c .before .before .before .before in
     let at-is-decoding = at-rise .before .before .before in
-    let given = at-is-decoding .before .before .before .before .before .args in
-    clock-up (given .row) (given .s) _ (at-is-decoding .is-decoding .ensures) (at-is-decoding .before .if1 .taken) (at-rise .rise .ensures .0) (at-rise .rise .ensures .1) (c .settle .ensures)
+    let at-if1 = at-is-decoding .before in
+    let start = at-if1 .before .before .before .before in
+    λ counts. clock-up (start .args .row) (start .args .s) _ (at-is-decoding .is-decoding .ensures) (at-if1 .if1 .taken) (at-rise .rise .ensures .0) (at-rise .rise .ensures .1) (c .settle .ensures)
 
 is-decoding-requires-2 : tie.Need-is-decoding-requires-2
 is-decoding-requires-2 c κs = search needs
@@ -38,10 +39,10 @@ settle-requires-2 c κs = search needs
 
 returns-2 : tie.Need-returns-2
 returns-2 c =
-    let at-fall = c .before .before in
-    let at-is-decoding = at-fall .before .before in
-    let given = at-is-decoding .before .before .before .before .before .args in
-    clock-down (given .row) (given .s) _ (at-is-decoding .is-decoding2 .ensures) (at-is-decoding .before .if1 .left) (at-fall .fall .ensures) (c .settle2 .ensures)
+    let at-is-decoding2 = c .before .before .before .before in
+    let at-if1 = at-is-decoding2 .before in
+    let start = at-if1 .before .before .before .before in
+    λ counts. clock-down (start .args .row) (start .args .s) _ (at-is-decoding2 .is-decoding2 .ensures) (at-if1 .if1 .left) (c .before .before .fall .ensures) (c .settle2 .ensures)
 
 pub clock-spec : {M : Type 1} → statement M
 clock-spec =

@@ -9,10 +9,10 @@ enum-known-event c = search needs
 
 clock-requires : tie.Need-clock-requires
 clock-requires c κs =
-    let start = c .before .before .before .before .before .before .before .before .before in
-    let sound = start .pre .1 .unsettled in
-    let lent = start .pre .2 in
-    ((start .pre .0, sound .input, sound .inside, sound .stored), (lent .cells, lent .identification, lent .latch))
+    let start = c .before .before .before .before .before .before .before .before .before .before in
+    let sound = start .pre .0 .1 .unsettled in
+    let lent = start .pre .1 in
+    ((start .pre .0 .0, sound .input, sound .inside, sound .stored), (lent .cells, lent .identification, lent .latch))
 
 enum-known-event-2 : tie.Need-enum-known-event-2
 enum-known-event-2 c = search needs
@@ -43,9 +43,8 @@ enum-known-event-6 c = search needs
 
 wait-requires : tie.Need-wait-requires
 wait-requires c κs =
-    let start = c .before .before .before .before .before .before .before .before .before in
-    let lent = start .pre .2 in
-    ((start .pre .0, start .pre .1 .unsettled .cycle), (lent .cells, lent .identification, lent .latch))
+    let start = c .before .before .before .before .before .before .before .before .before .before .before in
+    ((start .pre .0 .0, start .pre .0 .1 .unsettled .cycle), start .pre .1)
 
 settle-requires : tie.Need-settle-requires
 settle-requires c κs = search needs
@@ -68,27 +67,31 @@ same-length-3 c = search needs
 returns : tie.Need-returns
 returns c =
     let at-event = c .before .before .before .before .before .before .before in
-    let given = at-event .before .before .before .before .before .args in
-    step-by (given .row) _ (at-event .event .given .1) (c .before .before .clock .ensures)
+    let start = at-event .before .before .before .before .before .before in
+    step-by (start .args .row) _ (at-event .event .given .1) (c .before .before .clock .ensures _)
 
 returns-2 : tie.Need-returns-2
 returns-2 c =
-    let given = c .before .before .before .before .before .before .before .args in
+    let start = c .before .before .before .before .before .before .before .before in
+    let given = start .args in
     step-by (given .row) _ (c .before .before .event2 .given .1) (data-alone (given .row) (given .s) _ (c .set-data .ensures))
 
 returns-3 : tie.Need-returns-3
 returns-3 c =
-    let given = c .before .before .before .before .before .before .before .args in
+    let start = c .before .before .before .before .before .before .before .before in
+    let given = start .args in
     step-by (given .row) _ (c .before .before .event3 .given .1) (select-alone (given .row) (given .s) _ (c .chip-select .ensures))
 
 returns-4 : tie.Need-returns-4
 returns-4 c =
-    let given = c .before .before .before .before .before .before .before .args in
+    let start = c .before .before .before .before .before .before .before .before in
+    let given = start .args in
     step-by (given .row) _ (c .before .before .event4 .given .1) (hold-alone (given .row) (given .s) _ (c .hold .ensures))
 
 returns-5 : tie.Need-returns-5
 returns-5 c =
-    let given = c .before .before .before .before .before .before .before .args in
+    let start = c .before .before .before .before .before .before .before .before in
+    let given = start .args in
     step-by (given .row) _ (c .before .before .event5 .given .1) (protect-alone (given .row) (given .s) _ (c .write-protect .ensures))
 
 same-length-4 : tie.Need-same-length-4
@@ -100,16 +103,21 @@ same-length-5 c = search needs
 same-length-6 : tie.Need-same-length-6
 same-length-6 c = search needs
 
+same-length-7 : tie.Need-same-length-7
+same-length-7 c = search needs
+
 returns-6 : tie.Need-returns-6
 returns-6 c =
-    let at-wait = c .before .before .before .before .before in
-    let at-event = at-wait .before .before .before .before .before in
-    let given = at-event .before .before .before .before .before .args in
-    step-by (given .row) _ (at-event .event6 .given .1) (waits (given .row) _ _ (at-wait .wait .ensures) (c .settle .ensures))
+    let at-wait = c .before .before .before .before .before .before .before in
+    let at-event6 = at-wait .before .before .before .before .before .before in
+    let start = at-event6 .before .before .before .before .before .before in
+    let given = start .args in
+    step-by (given .row) _ (at-event6 .event6 .given .1) (waits (given .row) _ _ (at-wait .wait .ensures) (c .settle .ensures))
 
 returns-7 : tie.Need-returns-7
 returns-7 c =
-    let given = c .before .before .before .before .before .before .args in
+    let start = c .before .before .before .before .before .before .before in
+    let given = start .args in
     step-by (given .row) _ (c .before .enum-told .given .1) (power-alone (given .row) (given .s) (c .power .ensures))
 
 pub step-spec : {M : Type 1} → statement M
@@ -142,5 +150,6 @@ step-spec =
     same-length-4
     same-length-5
     same-length-6
+    same-length-7
     returns-6
     returns-7)

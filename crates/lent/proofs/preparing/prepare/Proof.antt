@@ -21,12 +21,16 @@ same-length-2 c = search needs
 same-length-3 : tie.Need-same-length-3
 same-length-3 c = search needs
 
+same-length-4 : tie.Need-same-length-4
+same-length-4 c = search needs
+
 returns : tie.Need-returns
 returns c =
-    let given = c .before .before .before .before .before .before .before .before .before .args in
+    let start = c .before .before .before .before .before .before .before .before .before .before .before in
+    let given = start .args in
     let judged = c .before .before .lent-refused in
     let fresh = c .before .prepared-state in
-    prepare-refused (given .device) (fresh .result) (given .cells .now) (given .identification .now) (given .latch .now) (judged .result)
+    prepare-refused (given .device) (fresh .result) (given .cells .now) (given .identification .now) (given .latch .now) (given .counts .now) (judged .result)
     (judged .ensures) (fresh .ensures) (c .if1 .taken)
 
 row-of-requires : tie.Need-row-of-requires
@@ -37,19 +41,24 @@ fill-requires c κs = search needs
 
 prepare-identification-requires : tie.Need-prepare-identification-requires
 prepare-identification-requires c κs =
-    let given = c .before .before .before .before .before .before .before .before .before .before .before .before .before .before .before .args in
-    let judged = c .before .before .before .before .before .before .before .before .lent-refused in
-    let fresh = c .before .before .before .before .before .before .before .prepared-state in
-    let good = c .before .before .before .before .before .before .if1 .left in
-    let row = c .before .before .before .before .before .row-of in
-    let whole = lent-fine (given .device) (fresh .result) (given .cells .now) (given .identification .now) (given .latch .now) (sym (judged .ensures) ∙ good) in
+    let at-row-of = c .before .before .before .before .before in
+    let at-if1 = at-row-of .before in
+    let at-prepared-state = at-if1 .before in
+    let at-lent-refused = at-prepared-state .before in
+    let start = at-lent-refused .before .before .before .before .before .before .before .before .before in
+    let given = start .args in
+    let fresh = at-prepared-state .prepared-state in
+    let row = at-row-of .row-of in
+    let whole =
+    lent-fine (given .device) (fresh .result) (given .cells .now) (given .identification .now) (given .latch .now) (given .counts .now)
+    (sym (at-lent-refused .lent-refused .ensures) ∙ at-if1 .if1 .left) in
     (row-widths (given .device) (row .result) (row .ensures), whole .identification ∙ identification-at (given .device) (row .result) (row .ensures))
 
 fill-requires-2 : tie.Need-fill-requires-2
 fill-requires-2 c κs = search needs
 
-same-length-4 : tie.Need-same-length-4
-same-length-4 c = search needs
+clear-requires : tie.Need-clear-requires
+clear-requires c κs = search needs
 
 same-length-5 : tie.Need-same-length-5
 same-length-5 c = search needs
@@ -57,18 +66,29 @@ same-length-5 c = search needs
 same-length-6 : tie.Need-same-length-6
 same-length-6 c = search needs
 
+same-length-7 : tie.Need-same-length-7
+same-length-7 c = search needs
+
+same-length-8 : tie.Need-same-length-8
+same-length-8 c = search needs
+
 returns-2 : tie.Need-returns-2
 returns-2 c =
-    let filled = c .before .before .before .before .before .before .before .before .before .before in
-    let given = filled .before .before .before .before .before .before .before .before .before .before .before .before .args in
-    let judged = filled .before .before .before .before .before .lent-refused in
-    let fresh = filled .before .before .before .before .prepared-state in
-    let good = filled .before .before .before .if1 .left in
-    let row = filled .before .before .row-of in
-    let at-prepare-identification = c .before .before .before .before .before .before in
-    prepare-done (given .device) (fresh .result) (given .cells .now) (given .identification .now) (given .latch .now) (judged .result)
-    (judged .ensures) (fresh .ensures) (row .result) _ _ _ good (row .ensures) (filled .fill .ensures) (at-prepare-identification .prepare-identification .ensures)
-    (c .before .before .fill2 .ensures)
+    let at-fill2 = c .before .before .before .before .before .before in
+    let at-prepare-identification = at-fill2 .before .before .before .before in
+    let at-fill = at-prepare-identification .before .before .before .before in
+    let at-row-of = at-fill .before .before in
+    let at-if1 = at-row-of .before in
+    let at-prepared-state = at-if1 .before in
+    let at-lent-refused = at-prepared-state .before in
+    let start = at-lent-refused .before .before .before .before .before .before .before .before .before in
+    let given = start .args in
+    let judged = at-lent-refused .lent-refused in
+    let fresh = at-prepared-state .prepared-state in
+    let row = at-row-of .row-of in
+    prepare-done (given .device) (fresh .result) (given .cells .now) (given .identification .now) (given .latch .now) (given .counts .now) (judged .result)
+    (judged .ensures) (fresh .ensures) (row .result) _ _ _ _ (at-if1 .if1 .left) (row .ensures) (at-fill .fill .ensures)
+    (at-prepare-identification .prepare-identification .ensures) (at-fill2 .fill2 .ensures) (c .before .before .clear .ensures)
 
 pub prepare-spec : {M : Type 1} → statement M
 prepare-spec =
@@ -79,12 +99,15 @@ prepare-spec =
     same-length
     same-length-2
     same-length-3
+    same-length-4
     returns
     row-of-requires
     fill-requires
     prepare-identification-requires
     fill-requires-2
-    same-length-4
+    clear-requires
     same-length-5
     same-length-6
+    same-length-7
+    same-length-8
     returns-2)

@@ -13,24 +13,36 @@ row-of-requires c κs = search needs
 
 load-requires : tie.Need-load-requires
 load-requires c κs =
-    let ready = c .before .before .before .before .before .before .before .before .before in
-    let start = ready .before .before .before .before .before .before .before .before .before .before .before in
+    let at-row-of = c .before .before in
+    let at-prepare = at-row-of .before .before .before .before .before .before .before .before .before in
+    let start = at-prepare .before .before .before .before .before .before .before .before .before .before .before .before .before in
     let given = start .args in
-    let row = c .before .before .row-of in
-    load-fits (given .device) (given .cells .now) (given .identification .now) (given .latch .now) (start .pre) _ _ _ _ _
-    (ready .prepare .ensures) (row .result) (row .ensures)
+    load-fits (given .device) (given .cells .now) (given .identification .now) (given .latch .now) (given .counts .now) (start .pre) _ _ _ _ _ _
+    (at-prepare .prepare .ensures) (at-row-of .row-of .result) (at-row-of .row-of .ensures)
 
 is-faulty-requires : tie.Need-is-faulty-requires
 is-faulty-requires c κs = search needs
 
 same-length : tie.Need-same-length
-same-length c = search needs
+same-length c =
+    let at-cells2 = c .before .before .before .before .before in
+    let at-cells = at-cells2 .before .before .before .before .before .before .before .before .before .before .before .before in
+    at-cells2 .cells2 .given ∙ at-cells .cells .given
 
 same-length-2 : tie.Need-same-length-2
-same-length-2 c = search needs
+same-length-2 c =
+    let at-identification = c .before .before .before .before .before .before .before .before .before .before .before .before .before .before .before in
+    c .before .before .before .identification2 .given ∙ at-identification .identification .given
 
 same-length-3 : tie.Need-same-length-3
-same-length-3 c = search needs
+same-length-3 c =
+    let at-latch = c .before .before .before .before .before .before .before .before .before .before .before .before .before in
+    at-latch .latch .given
+
+same-length-4 : tie.Need-same-length-4
+same-length-4 c =
+    let at-counts = c .before .before .before .before .before .before .before .before .before .before .before in
+    at-counts .counts .given
 
 returns : tie.Need-returns
 returns c = search needs
@@ -44,53 +56,77 @@ slice-aggregate-complain c = search needs
 complain-requires : tie.Need-complain-requires
 complain-requires c κs = search needs
 
-same-length-4 : tie.Need-same-length-4
-same-length-4 c =
-    let read = c .before .before .before .before .before .before .before .before .before .before in
-    read .cells2 .given ∙ read .before .before .before .before .before .before .before .before .before .before .cells .given
-
 same-length-5 : tie.Need-same-length-5
 same-length-5 c =
-    let read = c .before .before .before .before .before .before .before .before in
-    read .identification2 .given ∙ read .before .before .before .before .before .before .before .before .before .before .identification .given
+    let at-cells2 = c .before .before .before .before .before .before .before .before .before .before in
+    let at-cells = at-cells2 .before .before .before .before .before .before .before .before .before .before .before .before in
+    at-cells2 .cells2 .given ∙ at-cells .cells .given
 
 same-length-6 : tie.Need-same-length-6
 same-length-6 c =
-    let at-latch = c .before .before .before .before .before .before .before .before .before .before .before .before .before .before .before .before in
+    let at-identification2 = c .before .before .before .before .before .before .before .before in
+    let at-identification = at-identification2 .before .before .before .before .before .before .before .before .before .before .before .before in
+    at-identification2 .identification2 .given ∙ at-identification .identification .given
+
+same-length-7 : tie.Need-same-length-7
+same-length-7 c =
+    let at-latch = c .before .before .before .before .before .before .before .before .before .before .before .before .before .before .before .before .before .before in
     at-latch .latch .given
+
+same-length-8 : tie.Need-same-length-8
+same-length-8 c =
+    let at-counts = c .before .before .before .before .before .before .before .before .before .before .before .before .before .before .before .before in
+    at-counts .counts .given
 
 returns-2 : tie.Need-returns-2
 returns-2 c = search needs
 
+count-pages-requires : tie.Need-count-pages-requires
+count-pages-requires c κs = search needs
+
 play-loaded-requires : tie.Need-play-loaded-requires
 play-loaded-requires c κs =
-    let chip = c .before .before .before .before .before .load2 in
-    let file = c .before .before .before .before .before .before .before .before .before .before .before .before in
-    let ready = file .before .before .before .before .before .before .before .before .before .before in
-    let start = ready .before .before .before .before .before .before .before .before .before .before .before in
+    let at-counts2 = c .before .before .before .before .before in
+    let at-count-pages = at-counts2 .before in
+    let at-if2 = at-count-pages .before .before .before in
+    let at-load2 = at-if2 .before .before in
+    let at-identification2 = at-load2 .before .before .before .before in
+    let at-cells2 = at-identification2 .before .before in
+    let at-load = at-cells2 .before in
+    let at-prepare = at-load .before .before .before .before .before .before .before .before .before .before .before .before in
+    let start = at-prepare .before .before .before .before .before .before .before .before .before .before .before .before .before in
     let given = start .args in
-    let at-identification2 = c .before .before .before .before .before .before .before .before .before in
-    let at-cells2 = c .before .before .before .before .before .before .before .before .before .before .before in
-    loaded (given .device) (given .cells .now) (given .identification .now) (given .latch .now) (start .pre) _ _ _ _ _ (ready .prepare .ensures)
-    (file .load .result .stored) (chip .result .number) (chip .result .state) _ _ (chip .ensures) (c .before .before .before .if2 .left)
-    (at-cells2 .cells2 .given)
-    (at-identification2 .identification2 .given)
-
-same-length-7 : tie.Need-same-length-7
-same-length-7 c =
-    let read = c .before .before .before .before .before .before .before .before .before .before .before .before .before .before .before .before .before .before in
-    let at-cells3 = c .before .before .before .before .before in
-    at-cells3 .cells3 .given ∙ read .cells2 .given ∙ read .before .before .before .before .before .before .before .before .before .before .cells .given
-
-same-length-8 : tie.Need-same-length-8
-same-length-8 c =
-    let read = c .before .before .before .before .before .before .before .before .before .before .before .before .before .before .before .before in
-    c .before .before .before .identification3 .given ∙ read .identification2 .given ∙ read .before .before .before .before .before .before .before .before .before .before .identification .given
+    let chip = at-load2 .load2 in
+    loaded (given .device) (given .cells .now) (given .identification .now) (given .latch .now) (given .counts .now) (start .pre) _ _ _ _ _ _ (at-prepare .prepare .ensures)
+    (at-load .load .result .stored) (chip .result .number) (chip .result .state) (chip .ensures) (at-if2 .if2 .left) _ _ _
+    (at-cells2 .cells2 .given) (at-identification2 .identification2 .given) (at-counts2 .counts2 .given) _ (at-count-pages .count-pages .ensures)
 
 same-length-9 : tie.Need-same-length-9
 same-length-9 c =
-    let read = c .before .before .before .before .before .before .before .before .before .before .before .before .before .before .before .before in
-    c .before .latch2 .given ∙ read .before .before .before .before .before .before .before .before .latch .given
+    let at-cells3 = c .before .before .before .before .before .before .before in
+    let at-cells2 = at-cells3 .before .before .before .before .before .before .before .before .before .before .before .before .before .before .before .before .before .before .before in
+    let at-cells = at-cells2 .before .before .before .before .before .before .before .before .before .before .before .before in
+    at-cells3 .cells3 .given ∙ at-cells2 .cells2 .given ∙ at-cells .cells .given
+
+same-length-10 : tie.Need-same-length-10
+same-length-10 c =
+    let at-identification3 = c .before .before .before .before .before in
+    let at-identification2 =
+    at-identification3 .before .before .before .before .before .before .before .before .before .before .before .before .before .before .before .before .before .before .before in
+    let at-identification = at-identification2 .before .before .before .before .before .before .before .before .before .before .before .before in
+    at-identification3 .identification3 .given ∙ at-identification2 .identification2 .given ∙ at-identification .identification .given
+
+same-length-11 : tie.Need-same-length-11
+same-length-11 c =
+    let counted = c .before .before .before .before .before .before .before .before .before .before .before .before .before .before .before in
+    let at-latch = counted .before .before .before .before .before .before .before .before .before .before .before .before .before .before .before .before .before .before .before in
+    c .before .before .before .latch2 .given ∙ at-latch .latch .given
+
+same-length-12 : tie.Need-same-length-12
+same-length-12 c =
+    let at-counts2 = c .before .before .before .before .before .before .before .before .before .before .before .before .before .before in
+    let at-counts = at-counts2 .before .before .before .before .before .before .before .before .before .before .before .before .before .before .before .before .before .before in
+    c .before .counts3 .given ∙ at-counts2 .counts2 .given ∙ at-counts .counts .given
 
 returns-3 : tie.Need-returns-3
 returns-3 c = search needs
@@ -106,16 +142,20 @@ play-lent-spec =
     same-length
     same-length-2
     same-length-3
+    same-length-4
     returns
     load-requires-2
     slice-aggregate-complain
     complain-requires
-    same-length-4
     same-length-5
     same-length-6
-    returns-2
-    play-loaded-requires
     same-length-7
     same-length-8
+    returns-2
+    count-pages-requires
+    play-loaded-requires
     same-length-9
+    same-length-10
+    same-length-11
+    same-length-12
     returns-3)

@@ -1,9 +1,9 @@
 -- `playthrough::run::play_loaded` meets its contract.
-use mathlib.Core.Path.{_≡_, sym, subst}
+use mathlib.Core.Path.{sym, subst}
 use native.Mathlib.Omega.{arith}
 use Rattle.rules.specs.declared.State.{State}
 use Rattle.rules.specs.World.{worldOf}
-use Rattle.rules.specs.Call.{worldRefusal}
+use Rattle.player.specs.Playing.{Playable}
 use Rattle.m95.proofs.Calling.{fine-status}
 use borrow.Author.Needs.{needs}
 use Rattle.playthrough.proofs.run.play_loaded.Statement.{statement}
@@ -50,16 +50,16 @@ slice-aggregate-play-into c = search needs
 
 play-into-requires : tie.Need-play-into-requires
 play-into-requires c κs =
-    let begun = c .before .before .before .before .started in
-    let read = c .before .before .before .before .before .before .before .before .before .before .before .before in
-    let room = read .before .before in
-    let start = room .before .before .before .before .before .before .before .before in
+    let at-started = c .before .before .before .before .before in
+    let at-buf2 = at-started .before .before .before .before .before .before .before in
+    let at-begin = at-buf2 .before in
+    let at-large-buffer = at-begin .before .before in
+    let start = at-large-buffer .before .before .before .before .before .before .before .before .before in
+    let begun = at-started .started in
     let given = start .args in
-    let at-buf2 = c .before .before .before .before .before .before .before .before .before .before .before in
-    let refused : State → Type 0 = λ (s : State). worldRefusal (given .device) (worldOf s (given .cells .now) (given .identification .now) (given .latch .now)) ≡ 0 in (
-      subst refused (sym (begun .ensures .0)) (start .pre),
-      omega (arith, begun .ensures .1, read .begin .ensures .0),
-      omega (arith, at-buf2 .buf2 .given, room .large-buffer .ensures),
+    let playable : State → Type 0 = λ (s : State). Playable (given .device) (worldOf s (given .cells .now) (given .identification .now) (given .latch .now) (given .counts .now)) in (
+      (subst playable (sym (begun .ensures .0)) (start .pre), begun .ensures .2),
+      (omega (arith, begun .ensures .1, at-begin .begin .ensures .0), omega (arith, at-buf2 .buf2 .given, at-large-buffer .large-buffer .ensures)),
     )
 
 replace-requires : tie.Need-replace-requires
@@ -67,10 +67,10 @@ replace-requires c κs = search needs
 
 tell-requires : tie.Need-tell-requires
 tell-requires c κs =
-    let played = c .before .before .before .before .before .before .before .before .before .before .before in
-    let room = played .before .before .before .before .before .before .before .before .before .before .before .before .before .before .before in
-    let start = room .before .before .before .before .before .before .before .before in
-    fine-status (start .args .device) _ (played .play-into .ensures)
+    let at-play-into = c .before .before .before .before .before .before .before .before .before .before .before .before .before in
+    let room = at-play-into .before .before .before .before .before .before .before .before .before .before .before .before .before .before .before .before in
+    let start = room .before .before .before .before .before .before .before .before .before in
+    fine-status (start .args .device) _ (at-play-into .play-into .ensures .taken)
 
 same-length : tie.Need-same-length
 same-length c = search needs
@@ -81,17 +81,23 @@ same-length-2 c = search needs
 same-length-3 : tie.Need-same-length-3
 same-length-3 c = search needs
 
-returns-3 : tie.Need-returns-3
-returns-3 c = search needs
-
 same-length-4 : tie.Need-same-length-4
 same-length-4 c = search needs
+
+returns-3 : tie.Need-returns-3
+returns-3 c = search needs
 
 same-length-5 : tie.Need-same-length-5
 same-length-5 c = search needs
 
 same-length-6 : tie.Need-same-length-6
 same-length-6 c = search needs
+
+same-length-7 : tie.Need-same-length-7
+same-length-7 c = search needs
+
+same-length-8 : tie.Need-same-length-8
+same-length-8 c = search needs
 
 returns-4 : tie.Need-returns-4
 returns-4 c = search needs
@@ -119,8 +125,10 @@ play-loaded-spec =
     same-length
     same-length-2
     same-length-3
-    returns-3
     same-length-4
+    returns-3
     same-length-5
     same-length-6
+    same-length-7
+    same-length-8
     returns-4)

@@ -10,7 +10,7 @@ sub-left : tie.Need-sub-left
 sub-left c = search needs
 
 returns : tie.Need-returns
-returns c = λ row w. refused-head _ _ _ _ _ (c .if1 .taken)
+returns c = λ identification latch. refused-head _ _ _ _ _ (c .if1 .taken)
 
 two-at-requires : tie.Need-two-at-requires
 two-at-requires c κs = search needs
@@ -28,14 +28,14 @@ returns-2 : tie.Need-returns-2
 returns-2 c =
     let at-kind = c .before .before in
     let at-size = at-kind .before in
-    λ row w. refused-kind _ _ _ _ _ (at-size .two-at .ensures) (at-kind .two-at2 .ensures) (c .before .length-of .ensures) (at-size .before .if1 .left) (c .if2 .taken)
+    λ identification latch. refused-kind _ _ _ _ _ (at-size .two-at .ensures) (at-kind .two-at2 .ensures) (c .before .length-of .ensures) (at-size .before .if1 .left) (c .if2 .taken)
 
 returns-3 : tie.Need-returns-3
 returns-3 c =
     let at-right = c .before .before in
     let at-kind = at-right .before in
     let at-size = at-kind .before in
-    λ row w.
+    λ identification latch.
     refused-length _ _ _ _ _ (at-size .two-at .ensures) (at-kind .two-at2 .ensures) (at-right .length-of .ensures) (at-size .before .if1 .left) (c .before .if2 .left) (c .if3 .taken)
 
 add-if4 : tie.Need-add-if4
@@ -46,14 +46,14 @@ returns-4 c =
     let at-right = c .before .before .before in
     let at-kind = at-right .before in
     let at-size = at-kind .before in
-    λ row w.
+    λ identification latch.
     refused-body _ _ _ _ _ (at-size .two-at .ensures) (at-kind .two-at2 .ensures) (at-right .length-of .ensures) (at-size .before .if1 .left) (c .before .before .if2 .left)
     (c .before .if3 .left) (c .if4 .taken)
 
 is-bad-pin-requires : tie.Need-is-bad-pin-requires
 is-bad-pin-requires c κs =
-    let start = c .before .before .before .before .before .before .before .before in
-    omega (arith, c .before .before .before .length-of .ensures, c .if4 .left, start .pre)
+    let start = c .before .before .before .before .before .before .before .before .before .before in
+    omega (arith, c .before .before .before .length-of .ensures, c .if4 .left, start .pre .1 .2)
 
 returns-5 : tie.Need-returns-5
 returns-5 c =
@@ -61,7 +61,7 @@ returns-5 c =
     let at-right = at-known .before in
     let at-kind = at-right .before in
     let at-size = at-kind .before in
-    λ row w.
+    λ identification latch.
     refused-pin _ _ _ _ _ (at-size .two-at .ensures) (at-kind .two-at2 .ensures) (at-right .length-of .ensures) (at-size .before .if1 .left) (at-known .if2 .left)
     (c .before .before .before .if3 .left) (c .before .before .if4 .left) (c .before .is-bad-pin .ensures) (c .if5 .taken)
 
@@ -73,7 +73,7 @@ returns-6 c =
     let at-right = at-known .before in
     let at-kind = at-right .before in
     let at-size = at-kind .before in
-    λ row w.
+    λ identification latch.
     refused-full _ _ _ _ _ (at-size .two-at .ensures) (at-kind .two-at2 .ensures) (at-right .length-of .ensures) (at-size .before .if1 .left) (at-known .if2 .left)
     (at-whole .before .if3 .left) (at-whole .if4 .left) (at-bad-pin .is-bad-pin .ensures) (c .before .if5 .left) (c .if6 .taken)
 
@@ -81,8 +81,8 @@ event-at-requires : tie.Need-event-at-requires
 event-at-requires c κs =
     let at-length-of = c .before .before .before .before .before .before in
     let at-two-at2 = at-length-of .before in
-    let start = at-two-at2 .before .before .before .before in
-    (at-two-at2 .two-at2 .ensures, omega (arith, at-length-of .length-of .ensures, c .before .before .before .if4 .left, start .pre))
+    let start = at-two-at2 .before .before .before .before .before .before in
+    (at-two-at2 .two-at2 .ensures, omega (arith, at-length-of .length-of .ensures, c .before .before .before .if4 .left, start .pre .1 .2))
 
 refused-requires : tie.Need-refused-requires
 refused-requires c κs = search needs
@@ -95,10 +95,10 @@ returns-7 c =
     let at-right = at-known .before in
     let at-kind = at-right .before in
     let at-size = at-kind .before in
-    λ row w.
+    λ identification latch.
     refused-event _ _ _ _ _ (at-size .two-at .ensures) (at-kind .two-at2 .ensures) (at-right .length-of .ensures) (at-size .before .if1 .left) (at-known .if2 .left)
     (at-whole .before .if3 .left) (at-whole .if4 .left) (at-bad-pin .is-bad-pin .ensures) (c .before .before .before .if5 .left) (c .before .before .if6 .left)
-    (c .before .event-at .ensures) (c .refused .ensures row w)
+    (c .before .event-at .ensures) (c .refused .ensures identification latch)
 
 pub refused-spec : {M : Type 1} → statement M
 refused-spec =
