@@ -3,6 +3,7 @@ use Prim.Native.Nat.{ℕ}
 use mathlib.Core.Path.{_≡_, refl, sym, ap, _∙_}
 use mathlib.Core.Bool.{Bool, true, false, not, _&&_}
 use mathlib.Core.List.{List}
+use borrow.Author.Tests.{ne-eqb}
 use Rattle.rules.specs.declared.Row.{Row}
 use Rattle.rules.specs.declared.Event.{Event}
 use Rattle.rules.specs.declared.Level.{Level}
@@ -13,7 +14,7 @@ use Rattle.rules.specs.Receive.{risen, risenLatch}
 use Rattle.rules.specs.Send.{fallen}
 use Rattle.rules.specs.Judge.{judged}
 use Rattle.rules.specs.Cycle.{isMiscounted, ends, waitedState, waited}
-use Rattle.rules.specs.Event.{pinsAfter, selected, deselected, sawLow, decodes, react, settled, step, answer, refusal}
+use Rattle.rules.specs.Event.{pinsAfter, selected, deselected, sawLow, decodes, react, settled, step, answer, refusal, next}
 use Rattle.rules.specs.Trace.{answerByte}
 use Rattle.chip.specs.Alone.{stepAlone}
 
@@ -125,3 +126,13 @@ module _ (row : Row) (w : World) (time : ℕ) {b : Bool}
 
   pub wait-taken : b ≡ false → 0 ≡ refusal row (Event.Wait time) w
   wait-taken h = rw (← e, h)
+
+-- An event that is tried: it is refused and leaves the world, or it is done.
+module _ (row : Row) (e : Event) (w : World) {n : ℕ} (en : n ≡ refusal row e w) where
+  pub tried-barred : (n ≡ 0 → ⊥) → w ≡ next row e w
+  unfolding next
+  tried-barred z = rw (← en, ne-eqb n 0 z)
+
+  pub tried-done : {u : World} → n ≡ 0 → u ≡ step row e w → u ≡ next row e w
+  unfolding next
+  tried-done z eu = eu ∙ rw (← en, z)

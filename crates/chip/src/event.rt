@@ -7,7 +7,7 @@ ghost use mathlib.Core.List.{List};
 ghost use lib.ListN.{length};
 ghost use Rattle.rules.specs.World.{worldOf};
 ghost use Rattle.rules.specs.Device.{Widths, pageCount};
-ghost use Rattle.rules.specs.Event.{selected, deselected, decodes, settled, step, refusal, answer};
+ghost use Rattle.rules.specs.Event.{selected, deselected, decodes, settled, step, refusal, next, answer};
 ghost use Rattle.rules.specs.Trace.{answerByte};
 ghost use Rattle.rules.specs.Judge.{storable};
 ghost use Rattle.rules.specs.Sound.{SoundInput, SoundCycle, Sound, Lent};
@@ -267,5 +267,43 @@ pub fn refused(row: Row, s: State, cells: &[u8], counts: &[u16], event: Event) -
             0
         },
         Event::Power => if receive::is_busy(s) { 11 } else { 0 },
+    }
+}
+
+// What an event gives: the number that it is refused with and the state as it was, or 0 and the state after it.
+pub struct Tried {
+    pub number: usize,
+    pub state: State,
+}
+
+// Any event, refused or done. A single event and the loop of a trace both come here, so that the counting of a page is compiled once and stays out
+// of that loop (docs/SPEED.md).
+pub fn attempt(
+    row: Row,
+    s: State,
+    cells: &mut [u8],
+    identification: &mut [u8],
+    latch: &mut [u8],
+    counts: &mut [u16],
+    event: Event,
+) -> Tried
+    requires { ⌜ (Widths row) × (Sound row (worldOf s (now cells) (now identification) (now latch) (now counts))) ⌝ }
+    requires { ⌜ Lent row (worldOf s (now cells) (now identification) (now latch) (now counts)) ⌝ }
+    ensures { λ r. ⌜
+        (r .number ≡ refusal row event (worldOf s (now (cells .entry)) (now (identification .entry)) (now (latch .entry)) (now (counts .entry))))
+        × (worldOf (r .state) (now (cells .exit)) (now (identification .exit)) (now (latch .exit)) (now (counts .exit))
+        ≡ next row event (worldOf s (now (cells .entry)) (now (identification .entry)) (now (latch .entry)) (now (counts .entry)))) ⌝ }
+{
+    let number = refused(row, s, cells, counts, event);
+    if number != 0 {
+        return Tried {
+            number: number,
+            state: s,
+        };
+    }
+    let t = step(row, s, cells, identification, latch, counts, event);
+    Tried {
+        number: 0,
+        state: t,
     }
 }

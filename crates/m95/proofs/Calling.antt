@@ -13,7 +13,7 @@ use Rattle.rules.specs.World.{bit, number, World}
 use Rattle.rules.specs.Device.{Widths, rowOf}
 use Rattle.rules.specs.Instruction.{busy}
 use Rattle.rules.specs.Send.{statusByte}
-use Rattle.rules.specs.Event.{step, answer, refusal}
+use Rattle.rules.specs.Event.{step, next, answer, refusal}
 use Rattle.rules.specs.Sound.{isSound, Sound, Lent}
 use Rattle.rules.specs.Trace.{answerByte, Progress, progressOf, run}
 use Rattle.rules.specs.Call.{lentRefusal, worldRefusal, repliedAs, eventOutcome, runOutcome}
@@ -63,17 +63,20 @@ module _ (device : ℕ) (w : World) (e : Event) (n : ℕ) (en : n ≡ worldRefus
   unfolding eventOutcome
   event-refused z = rw (← en, ne-eqb n 0 z, ne-eqb n 0 z)
 
-  module _ (z : n ≡ 0) (row : Row) (er : row ≡ rowOf device) (m : ℕ) (em : m ≡ refusal row e w) where
+  module _ (z : n ≡ 0) (row : Row) (er : row ≡ rowOf device) (m : ℕ) (em : m ≡ refusal row e w) (u : World) (eu : u ≡ next row e w) where
     refusal-at : refusal (rowOf device) e w ≡ m
     refusal-at = ap (λ (x : Row). refusal x e w) (sym er) ∙ sym em
 
-    pub event-barred : (m ≡ 0 → ⊥) → repliedAs m 2 w ≡ eventOutcome device w e
-    unfolding eventOutcome
-    event-barred h = rw (← en, z, refusal-at, ne-eqb m 0 h)
+    next-at : next (rowOf device) e w ≡ u
+    next-at = ap (λ (x : Row). next x e w) (sym er) ∙ sym eu
 
-    pub event-done : (u : World) (a : ℕ) → m ≡ 0 → u ≡ step row e w → a ≡ answerByte (answer (u .state)) → repliedAs 0 a u ≡ eventOutcome device w e
-    unfolding eventOutcome
-    event-done u a h eu ea = rw (← en, z, refusal-at, h, ea, eu, er)
+    pub event-barred : (m ≡ 0 → ⊥) → repliedAs m 2 u ≡ eventOutcome device w e
+    unfolding eventOutcome next
+    event-barred h = let kept : u ≡ w = sym next-at ∙ rw (refusal-at, ne-eqb m 0 h) in rw (← en, z, refusal-at, ne-eqb m 0 h, kept)
+
+    pub event-done : (a : ℕ) → m ≡ 0 → a ≡ answerByte (answer (u .state)) → repliedAs 0 a u ≡ eventOutcome device w e
+    unfolding eventOutcome next
+    event-done a h ea = let done : u ≡ step (rowOf device) e w = sym next-at ∙ rw (refusal-at, h) in rw (← en, z, refusal-at, h, ea, done)
 
 -- A trace.
 module _ (device : ℕ) (w : World) (t a : List ℕ) (limit n : ℕ) (en : n ≡ worldRefusal device w) where

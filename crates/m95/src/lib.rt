@@ -72,15 +72,16 @@ pub fn event(
         };
     }
     let row = tables::row_of(device);
-    let refused = chip::event::refused(row, s, cells, counts, event);
-    if refused != 0 {
+    let tried = chip::event::attempt(row, s, cells, identification, latch, counts, event);
+    if tried.number != 0 {
+        let kept = tried.state;
         return Replied {
-            number: refused,
+            number: tried.number,
             answer: 2,
-            state: s,
+            state: kept,
         };
     }
-    let t = chip::event::step(row, s, cells, identification, latch, counts, event);
+    let t = tried.state;
     let answer = chip::event::answer(t) as usize;
     Replied {
         number: 0,

@@ -1,22 +1,25 @@
 -- What holds at every turn of a run, and how one turn keeps it.
-use Prim.Native.Nat.{ℕ, _+_, _-_, _≤_, _<_}
+use Prim.Native.Nat.{ℕ, _+_, _-_, _/_, _≤_, _<_}
 use mathlib.Core.Path.{_≡_, refl, sym, ap, _∙_, subst}
 use mathlib.Core.Bool.{Bool, true, false}
 use mathlib.Core.List.{List}
 use native.Mathlib.Omega.{arith}
-use lib.ListN.{length, set, length-set}
-use lib.Dec.{leb, ltb}
+use lib.ListN.{length, getD, set, length-set}
+use lib.Dec.{eqb, leb, ltb}
 use borrow.Author.Tests.{ne-eqb, le-leb, lt-leb, ltb-true}
 use Rattle.rules.specs.declared.Row.{Row}
 use Rattle.rules.specs.declared.Event.{Event}
 use Rattle.rules.specs.World.{if_then_else_, number, World}
 use Rattle.rules.specs.Device.{Widths}
 use Rattle.rules.specs.Sound.{Sound, Lent}
-use Rattle.rules.specs.Event.{step, answer, refusal}
+use Rattle.rules.specs.Event.{step, next, answer, refusal}
 use Rattle.rules.specs.Trace.{two, pinEvent, eventAt, recordRefusal, answerByte, Progress, progressOf, turn, run}
+use Rattle.rules.proofs.Choice.{if-elim}
 use Rattle.rules.proofs.Preserved.{preserved}
-use Rattle.rules.proofs.Runs.{turn-does, run-stays, run-turn}
+use Rattle.rules.proofs.Runs.{turn-refused, turn-does, run-stays, run-turn}
+use Rattle.traces.specs.Form.{formRefusal}
 use Rattle.traces.specs.Quick.{IsPin}
+use Rattle.traces.proofs.Reading.{event-refused}
 use Rattle.traces.proofs.Short.{pin-done}
 
 -- The turn of a record that is done, with any spelling of the place behind it and of the count.
@@ -24,6 +27,38 @@ module _ (row : Row) (t : List ℕ) {at : ℕ} (n : ℕ) (w : World) (a : List �
   pub turn-ends : {size b : ℕ} {e : Event} {u : World} → recordRefusal row t at (leb (length a) n) w ≡ 0 → size ≡ two t at → e ≡ eventAt t at → u ≡ step row e w
       → b ≡ answerByte (answer (u .state)) → {next done : ℕ} → next ≡ at + 2 + size → done ≡ n + 1 → progressOf 0 next done u (set a n b) ≡ turn row t (progressOf 0 at n w a)
   turn-ends r es ee eu eb en ed = rw (en, ed) (turn-does row t n w a h r es ee eu eb)
+
+-- No event of a pin is refused.
+pin-taken : (row : Row) (p : ℕ) (w : World) → refusal row (pinEvent p) w ≡ 0
+pin-taken row p w =
+    let P : Event → Type 0 = λ (e : Event). refusal row e w ≡ 0 in
+    if-elim P (eqb (p / 2) 0) (λ _. refl)
+    (λ _. if-elim P (eqb (p / 2) 1) (λ _. refl) (λ _. if-elim P (eqb (p / 2) 2) (λ _. refl) (λ _. if-elim P (eqb (p / 2) 3) (λ _. refl) (λ _. refl))))
+
+pub turn-pin : (row : Row) (t : List ℕ) {at : ℕ} (n : ℕ) (w : World) (a : List ℕ) → at < length t → {r kind size b past done : ℕ} {e : Event} {u : World}
+    → r ≡ formRefusal t at (leb (length a) n) → r ≡ 0 → kind ≡ two t (at + 2) → kind ≡ 1 → e ≡ eventAt t at → u ≡ step row e w → size ≡ two t at
+    → b ≡ answerByte (answer (u .state)) → past ≡ at + 2 + size → done ≡ n + 1 → progressOf 0 past done u (set a n b) ≡ turn row t (progressOf 0 at n w a)
+unfolding eventAt
+turn-pin row t {at} n w a h er z ek one ee eu es eb en ed =
+    let pin : eventAt t at ≡ pinEvent (getD t (at + 4) 0) = rw (← ek, one) in
+    let taken : refusal row (eventAt t at) w ≡ 0 = ap (λ (x : Event). refusal row x w) pin ∙ pin-taken row (getD t (at + 4) 0) w in
+    turn-ends row t n w a h (sym (event-refused row t at (leb (length a) n) w er z refl (sym taken))) es ee eu eb en ed
+
+-- The turn of a record that is good by its form, and whose event is tried: refused it stays where it was, with the world; done it goes on.
+module _ (row : Row) (t : List ℕ) {at : ℕ} (n : ℕ) (w : World) (a : List ℕ) (h : at < length t) {r m : ℕ} {e : Event} {u : World}
+    (er : r ≡ formRefusal t at (leb (length a) n)) (z : r ≡ 0) (ee : e ≡ eventAt t at) (em : m ≡ refusal row e w) (eu : u ≡ next row e w) where
+  pub turn-barred : (m ≡ 0 → ⊥) → progressOf m at n u a ≡ turn row t (progressOf 0 at n w a)
+  unfolding next
+  turn-barred k =
+      let stays : u ≡ w = eu ∙ rw (← em, ne-eqb m 0 k) in
+      ap (λ (x : World). progressOf m at n x a) stays ∙ turn-refused row t n w a h (event-refused row t at (leb (length a) n) w er z ee em) k
+
+  pub turn-tried : m ≡ 0 → {size b : ℕ} → size ≡ two t at → b ≡ answerByte (answer (u .state)) → {past done : ℕ} → past ≡ at + 2 + size → done ≡ n + 1
+      → progressOf 0 past done u (set a n b) ≡ turn row t (progressOf 0 at n w a)
+  unfolding next
+  turn-tried k es eb en ed =
+      let does : u ≡ step row e w = eu ∙ rw (← em, k) in
+      turn-ends row t n w a h (sym (event-refused row t at (leb (length a) n) w er z ee em) ∙ k) es ee does eb en ed
 
 pub record Kept (row : Row) (t : List ℕ) (limit : ℕ) (w₀ : World) (a₀ : List ℕ) (w : World) (a : List ℕ) (at n : ℕ) : Type 0 where
   pub sound : Sound row w

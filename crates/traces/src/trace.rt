@@ -2,13 +2,13 @@
 
 ghost use mathlib.Core.Path.{_≡_};
 ghost use mathlib.Core.Bool.{false};
-ghost use mathlib.Core.List.{List};
-ghost use Prim.Native.Nat.{ℕ, _+_, _≤_, _<_};
+ghost use Prim.Native.Nat.{_+_, _≤_, _<_};
 ghost use lib.ListN.{length};
 ghost use Rattle.rules.specs.World.{worldOf};
-ghost use Rattle.rules.specs.Device.{Widths, pageCount};
-ghost use Rattle.rules.specs.Sound.{SoundCycle, Sound, Lent};
-ghost use Rattle.rules.specs.Trace.{two, lengthOf, pinEvent, eventAt, badPin, recordRefusal, progressOf, turn};
+ghost use Rattle.rules.specs.Device.{Widths};
+ghost use Rattle.rules.specs.Sound.{Sound, Lent};
+ghost use Rattle.traces.specs.Form.{formRefusal};
+ghost use Rattle.rules.specs.Trace.{two, lengthOf, pinEvent, eventAt, badPin, progressOf, turn};
 use rules::Event;
 use rules::Row;
 use rules::State;
@@ -71,20 +71,10 @@ pub fn is_bad_pin(trace: &[u8], at: usize, kind: usize) -> bool
     false
 }
 
-// What the record at a place is refused with, in document 01's order, or 0.
-pub fn refused(
-    row: Row,
-    s: State,
-    cells: &[u8],
-    counts: &[u16],
-    trace: &[u8],
-    at: usize,
-    full: bool,
-) -> usize
-    requires { ⌜ (Widths row) × (SoundCycle row (s .cycle .kind) (s .cycle .next) (s .place .start) (s .place .left)) ⌝ }
-    requires { ⌜ (length (now cells) ≡ row .cells) × (length (now counts) ≡ pageCount row) × (at ≤ length (now trace)) ⌝ }
-    ensures { λ r. ⌜ (
-        (identification latch : List ℕ) → r ≡ recordRefusal row (now (trace .entry)) at full (worldOf s (now (cells .entry)) identification latch (now (counts .entry)))) ⌝ }
+// What the record at a place is refused with by its form, in document 01's order, or 0. What its event is refused with comes after.
+pub fn refused(trace: &[u8], at: usize, full: bool) -> usize
+    requires { ⌜ at ≤ length (now trace) ⌝ }
+    ensures { λ r. ⌜ r ≡ formRefusal (now (trace .entry)) at full ⌝ }
 {
     let left = trace.len() - at;
     if left < 4 {
@@ -108,7 +98,7 @@ pub fn refused(
     if full {
         return 10;
     }
-    chip::event::refused(row, s, cells, counts, event_at(trace, at, kind))
+    0
 }
 
 // One record's turn: its number, the bytes taken and the records done then, and the state.
@@ -119,6 +109,7 @@ pub struct Turn {
     pub state: State,
 }
 
+// No event of a pin is refused, so that it is done at once; any other is tried.
 pub fn one(
     row: Row,
     s: State,
@@ -139,7 +130,7 @@ pub fn one(
         progressOf (r .number) (r .taken) (r .done) (worldOf (r .state) (now (cells .exit)) (now (identification .exit)) (now (latch .exit)) (now (counts .exit))) (now (answers .exit))
         ≡ turn row (now (trace .entry)) (progressOf 0 at n (worldOf s (now (cells .entry)) (now (identification .entry)) (now (latch .entry)) (now (counts .entry))) (now (answers .entry))) ⌝ }
 {
-    let number = refused(row, s, cells, counts, trace, at, answers.len() <= n);
+    let number = refused(trace, at, answers.len() <= n);
     if number != 0 {
         return Turn {
             number: number,
@@ -153,7 +144,27 @@ pub fn one(
     let event = event_at(trace, at, kind);
     let next = at + 2 + size;
     let done = n + 1;
-    let t = chip::event::step(row, s, cells, identification, latch, counts, event);
+    if kind == 1 {
+        let moved = chip::event::step(row, s, cells, identification, latch, counts, event);
+        answers[n] = chip::event::answer(moved);
+        return Turn {
+            number: 0,
+            taken: next,
+            done: done,
+            state: moved,
+        };
+    }
+    let tried = chip::event::attempt(row, s, cells, identification, latch, counts, event);
+    if tried.number != 0 {
+        let kept = tried.state;
+        return Turn {
+            number: tried.number,
+            taken: at,
+            done: n,
+            state: kept,
+        };
+    }
+    let t = tried.state;
     answers[n] = chip::event::answer(t);
     Turn {
         number: 0,

@@ -32,16 +32,18 @@ returns c =
 row-of-requires : tie.Need-row-of-requires
 row-of-requires c κs = search needs
 
-refused-requires : tie.Need-refused-requires
-refused-requires c κs =
-    let at-world-refused = c .before .before .before .before in
+attempt-requires : tie.Need-attempt-requires
+attempt-requires c κs =
+    let at-row-of = c .before .before .before .before in
+    let at-if1 = at-row-of .before in
+    let at-world-refused = at-if1 .before in
     let start = at-world-refused .before .before .before .before .before .before .before .before .before in
     let given = start .args in
     let lent = worldOf (given .s) (given .cells .now) (given .identification .now) (given .latch .now) (given .counts .now) in
     let judged = at-world-refused .world-refused in
-    let row = c .before .before .row-of in
-    let good = fine-row (given .device) lent (row .result) (judged .result) (row .ensures) (judged .ensures) (c .before .before .before .if1 .left) in
-    ((good .0, good .1 .unsettled .cycle), (good .2 .cells, good .2 .counts))
+    let row = at-row-of .row-of in
+    let good = fine-row (given .device) lent (row .result) (judged .result) (row .ensures) (judged .ensures) (at-if1 .if1 .left) in
+    ((good .0, good .1), good .2)
 
 same-length-5 : tie.Need-same-length-5
 same-length-5 c = search needs
@@ -57,7 +59,8 @@ same-length-8 c = search needs
 
 returns-2 : tie.Need-returns-2
 returns-2 c =
-    let at-row-of = c .before .before .before .before in
+    let at-attempt = c .before .before .before .before .before .before .before .before .before .before .before in
+    let at-row-of = at-attempt .before .before .before .before .before in
     let at-if1 = at-row-of .before in
     let at-world-refused = at-if1 .before in
     let start = at-world-refused .before .before .before .before .before .before .before .before .before in
@@ -65,22 +68,10 @@ returns-2 c =
     let lent = worldOf (given .s) (given .cells .now) (given .identification .now) (given .latch .now) (given .counts .now) in
     let judged = at-world-refused .world-refused in
     let row = at-row-of .row-of in
-    let asked = c .before .refused in
-    event-barred (given .device) lent (given .event) (judged .result) (judged .ensures) (at-if1 .if1 .left) (row .result) (row .ensures) (asked .result) (asked .ensures _ _)
-    (omega (arith, c .if2 .taken))
-
-step-requires : tie.Need-step-requires
-step-requires c κs =
-    let at-row-of = c .before .before .before .before .before .before .before .before in
-    let at-if1 = at-row-of .before in
-    let at-world-refused = at-if1 .before in
-    let start = at-world-refused .before .before .before .before .before .before .before .before .before in
-    let given = start .args in
-    let lent = worldOf (given .s) (given .cells .now) (given .identification .now) (given .latch .now) (given .counts .now) in
-    let judged = at-world-refused .world-refused in
-    let row = at-row-of .row-of in
-    let good = fine-row (given .device) lent (row .result) (judged .result) (row .ensures) (judged .ensures) (at-if1 .if1 .left) in
-    ((good .0, good .1), good .2)
+    let tried = at-attempt .attempt in
+    event-barred (given .device) lent (given .event) (judged .result) (judged .ensures) (at-if1 .if1 .left) (row .result) (row .ensures) (tried .result .number)
+    (tried .ensures .0) _ (tried .ensures .1)
+    (omega (arith, c .before .if2 .taken))
 
 answer-requires : tie.Need-answer-requires
 answer-requires c κs = search needs
@@ -102,10 +93,8 @@ same-length-12 c = search needs
 
 returns-3 : tie.Need-returns-3
 returns-3 c =
-    let at-step = c .before .before .before .before .before .before .before .before .before in
-    let at-if2 = at-step .before .before .before .before .before in
-    let at-refused = at-if2 .before in
-    let at-row-of = at-refused .before .before .before in
+    let at-attempt = c .before .before .before .before .before .before .before .before .before .before .before .before in
+    let at-row-of = at-attempt .before .before .before .before .before in
     let at-if1 = at-row-of .before in
     let at-world-refused = at-if1 .before in
     let start = at-world-refused .before .before .before .before .before .before .before .before .before in
@@ -113,9 +102,9 @@ returns-3 c =
     let lent = worldOf (given .s) (given .cells .now) (given .identification .now) (given .latch .now) (given .counts .now) in
     let judged = at-world-refused .world-refused in
     let row = at-row-of .row-of in
-    let asked = at-refused .refused in
-    event-done (given .device) lent (given .event) (judged .result) (judged .ensures) (at-if1 .if1 .left) (row .result) (row .ensures) (asked .result) (asked .ensures _ _) _
-    (c .answer .result) (omega (arith, at-if2 .if2 .left)) (at-step .step .ensures) (c .answer .ensures)
+    let tried = at-attempt .attempt in
+    event-done (given .device) lent (given .event) (judged .result) (judged .ensures) (at-if1 .if1 .left) (row .result) (row .ensures) (tried .result .number) (tried .ensures .0) _ (tried .ensures .1)
+    (c .answer .result) (omega (arith, c .before .before .if2 .left)) (c .answer .ensures)
 
 pub event-spec : {M : Type 1} → statement M
 event-spec =
@@ -128,13 +117,12 @@ event-spec =
     same-length-4
     returns
     row-of-requires
-    refused-requires
+    attempt-requires
     same-length-5
     same-length-6
     same-length-7
     same-length-8
     returns-2
-    step-requires
     answer-requires
     cast-answer
     same-length-9

@@ -1,7 +1,7 @@
 -- `traces::trace::refused` meets its contract.
 use native.Mathlib.Omega.{arith}
 use Rattle.rules.proofs.Runs.{length-small}
-use Rattle.traces.proofs.Reading.{refused-head, refused-kind, refused-length, refused-body, refused-pin, refused-full, refused-event}
+use Rattle.traces.proofs.Reading.{refused-head, refused-kind, refused-length, refused-body, refused-pin, refused-full, refused-not}
 use borrow.Author.Needs.{needs}
 use Rattle.traces.proofs.trace.refused.Statement.{statement}
 use Rattle.traces.proofs.trace.refused.Tie as tie
@@ -10,7 +10,7 @@ sub-left : tie.Need-sub-left
 sub-left c = search needs
 
 returns : tie.Need-returns
-returns c = λ identification latch. refused-head _ _ _ _ _ (c .if1 .taken)
+returns c = refused-head _ _ _ (c .if1 .taken)
 
 two-at-requires : tie.Need-two-at-requires
 two-at-requires c κs = search needs
@@ -26,79 +26,62 @@ length-of-requires c κs = search needs
 
 returns-2 : tie.Need-returns-2
 returns-2 c =
-    let at-kind = c .before .before in
-    let at-size = at-kind .before in
-    λ identification latch. refused-kind _ _ _ _ _ (at-size .two-at .ensures) (at-kind .two-at2 .ensures) (c .before .length-of .ensures) (at-size .before .if1 .left) (c .if2 .taken)
+    let at-if1 = c .before .before .before .before in
+    refused-kind _ _ _ (c .before .before .before .two-at .ensures) (c .before .before .two-at2 .ensures) (c .before .length-of .ensures) (at-if1 .if1 .left) (c .if2 .taken)
 
 returns-3 : tie.Need-returns-3
 returns-3 c =
-    let at-right = c .before .before in
-    let at-kind = at-right .before in
-    let at-size = at-kind .before in
-    λ identification latch.
-    refused-length _ _ _ _ _ (at-size .two-at .ensures) (at-kind .two-at2 .ensures) (at-right .length-of .ensures) (at-size .before .if1 .left) (c .before .if2 .left) (c .if3 .taken)
+    let at-two-at = c .before .before .before .before in
+    let at-if1 = at-two-at .before in
+    refused-length _ _ _ (at-two-at .two-at .ensures) (c .before .before .before .two-at2 .ensures) (c .before .before .length-of .ensures) (at-if1 .if1 .left) (c .before .if2 .left) (c .if3 .taken)
 
 add-if4 : tie.Need-add-if4
 add-if4 c = omega (arith, length-small (c .before .before .before .two-at2 .result), c .before .before .length-of .ensures)
 
 returns-4 : tie.Need-returns-4
 returns-4 c =
-    let at-right = c .before .before .before in
-    let at-kind = at-right .before in
-    let at-size = at-kind .before in
-    λ identification latch.
-    refused-body _ _ _ _ _ (at-size .two-at .ensures) (at-kind .two-at2 .ensures) (at-right .length-of .ensures) (at-size .before .if1 .left) (c .before .before .if2 .left)
-    (c .before .if3 .left) (c .if4 .taken)
+    let at-two-at2 = c .before .before .before .before in
+    let at-two-at = at-two-at2 .before in
+    let at-if1 = at-two-at .before in
+    refused-body _ _ _ (at-two-at .two-at .ensures) (at-two-at2 .two-at2 .ensures) (c .before .before .before .length-of .ensures) (at-if1 .if1 .left)
+    (c .before .before .if2 .left) (c .before .if3 .left) (c .if4 .taken)
 
 is-bad-pin-requires : tie.Need-is-bad-pin-requires
 is-bad-pin-requires c κs =
-    let start = c .before .before .before .before .before .before .before .before .before .before in
-    omega (arith, c .before .before .before .length-of .ensures, c .if4 .left, start .pre .1 .2)
+    let start = c .before .before .before .before .before .before .before .before in
+    omega (arith, c .before .before .before .length-of .ensures, c .if4 .left, start .pre)
 
 returns-5 : tie.Need-returns-5
 returns-5 c =
-    let at-known = c .before .before .before .before in
-    let at-right = at-known .before in
-    let at-kind = at-right .before in
-    let at-size = at-kind .before in
-    λ identification latch.
-    refused-pin _ _ _ _ _ (at-size .two-at .ensures) (at-kind .two-at2 .ensures) (at-right .length-of .ensures) (at-size .before .if1 .left) (at-known .if2 .left)
+    let at-if2 = c .before .before .before .before in
+    let at-length-of = at-if2 .before in
+    let at-two-at2 = at-length-of .before in
+    let at-two-at = at-two-at2 .before in
+    let at-if1 = at-two-at .before in
+    refused-pin _ _ _ (at-two-at .two-at .ensures) (at-two-at2 .two-at2 .ensures) (at-length-of .length-of .ensures) (at-if1 .if1 .left) (at-if2 .if2 .left)
     (c .before .before .before .if3 .left) (c .before .before .if4 .left) (c .before .is-bad-pin .ensures) (c .if5 .taken)
 
 returns-6 : tie.Need-returns-6
 returns-6 c =
-    let at-bad-pin = c .before .before in
-    let at-whole = at-bad-pin .before in
-    let at-known = at-whole .before .before in
-    let at-right = at-known .before in
-    let at-kind = at-right .before in
-    let at-size = at-kind .before in
-    λ identification latch.
-    refused-full _ _ _ _ _ (at-size .two-at .ensures) (at-kind .two-at2 .ensures) (at-right .length-of .ensures) (at-size .before .if1 .left) (at-known .if2 .left)
-    (at-whole .before .if3 .left) (at-whole .if4 .left) (at-bad-pin .is-bad-pin .ensures) (c .before .if5 .left) (c .if6 .taken)
-
-event-at-requires : tie.Need-event-at-requires
-event-at-requires c κs =
-    let at-length-of = c .before .before .before .before .before .before in
+    let at-if3 = c .before .before .before .before in
+    let at-if2 = at-if3 .before in
+    let at-length-of = at-if2 .before in
     let at-two-at2 = at-length-of .before in
-    let start = at-two-at2 .before .before .before .before .before .before in
-    (at-two-at2 .two-at2 .ensures, omega (arith, at-length-of .length-of .ensures, c .before .before .before .if4 .left, start .pre .1 .2))
-
-refused-requires : tie.Need-refused-requires
-refused-requires c κs = search needs
+    let at-two-at = at-two-at2 .before in
+    let at-if1 = at-two-at .before in
+    refused-full _ _ _ (at-two-at .two-at .ensures) (at-two-at2 .two-at2 .ensures) (at-length-of .length-of .ensures) (at-if1 .if1 .left) (at-if2 .if2 .left)
+    (at-if3 .if3 .left) (c .before .before .before .if4 .left) (c .before .before .is-bad-pin .ensures) (c .before .if5 .left) (c .if6 .taken)
 
 returns-7 : tie.Need-returns-7
 returns-7 c =
-    let at-bad-pin = c .before .before .before .before in
-    let at-whole = at-bad-pin .before in
-    let at-known = at-whole .before .before in
-    let at-right = at-known .before in
-    let at-kind = at-right .before in
-    let at-size = at-kind .before in
-    λ identification latch.
-    refused-event _ _ _ _ _ (at-size .two-at .ensures) (at-kind .two-at2 .ensures) (at-right .length-of .ensures) (at-size .before .if1 .left) (at-known .if2 .left)
-    (at-whole .before .if3 .left) (at-whole .if4 .left) (at-bad-pin .is-bad-pin .ensures) (c .before .before .before .if5 .left) (c .before .before .if6 .left)
-    (c .before .event-at .ensures) (c .refused .ensures identification latch)
+    let at-if3 = c .before .before .before .before in
+    let at-if2 = at-if3 .before in
+    let at-length-of = at-if2 .before in
+    let at-two-at2 = at-length-of .before in
+    let at-two-at = at-two-at2 .before in
+    let at-if1 = at-two-at .before in
+    refused-not _ _ _ (at-two-at .two-at .ensures) (at-two-at2 .two-at2 .ensures) (at-length-of .length-of .ensures) (at-if1 .if1 .left) (at-if2 .if2 .left)
+    (at-if3 .if3 .left) (c .before .before .before .if4 .left) (c .before .before .is-bad-pin .ensures) (c .before .if5 .left) (c .if6 .left)
 
 pub refused-spec : {M : Type 1} → statement M
 refused-spec =
@@ -117,6 +100,4 @@ refused-spec =
     is-bad-pin-requires
     returns-5
     returns-6
-    event-at-requires
-    refused-requires
     returns-7)
