@@ -18,7 +18,7 @@
  *
  * Any numbers, any lengths and any contents get a defined answer; a call that is refused says why by its number, and beside each call
  * stands what it then leaves. What no library can see is the caller's part: behind a pointer stand as many bytes, or entries, as its length
- * says, to be read, and to be written to where it is not const; that to the counts is aligned as one to a uint16_t is; a pointer to a size_t
+ * says, to be read, and to be written to where it is not const; the pointer to the counts is aligned for uint16_t; a pointer to a size_t
  * leads to one and is never NULL; and what a call may write to, the size_t's included, overlaps nothing else that is lent to that call.
  * Where a length is 0 nothing stands behind the pointer: it may be NULL, as an empty std::vector's is, and the call then gives what it gives
  * for a buffer of no bytes.
@@ -97,7 +97,7 @@ size_t m95_pages(size_t device);
 
 /*
  * What m95_event and m95_run refuse the buffers of a device with before they look at an event or a record: 1 to 4, 14, 5, or 0. What the
- * counts say is not looked at: wrong ones are no 5.
+ * counts say is not looked at: wrong ones do not give 5.
  */
 size_t m95_refusal(size_t device,
                    const uint8_t *state, size_t state_length,
@@ -107,8 +107,8 @@ size_t m95_refusal(size_t device,
                    const uint16_t *counts, size_t counts_length);
 
 /*
- * Prepares a device, and all its cells are FFh then and all counts 0: 1 to 4, 14, then 5 where the state's room is not M95_STATE_BYTES
- * long, or 0. Refused, it leaves the buffers as they were, but for one: refused with 1 to 4 or 14, a state's room of the right length is
+ * Prepares a device: its cells are all FFh then, and its counts all 0. It gives 1 to 4, 14, then 5 where the state's room is not
+ * M95_STATE_BYTES long, or 0. Refused, it leaves the buffers as they were, but for one: refused with 1 to 4 or 14, a state's room of the right length is
  * overwritten with the state of a prepared device.
  */
 size_t m95_prepare(size_t device,
@@ -144,7 +144,7 @@ size_t m95_load(size_t device, uint8_t *state, size_t state_length, size_t statu
  * One event: 1 to 4, 14, 5, then 7 and 9, then 11 or 15, or 0. A refused event answers M95_Z and changes nothing else.
  *
  * The wait that ends a write to the cells sets the count of its page; of all events this one alone looks at a count, and at no other page's.
- * Where that is wrong already, the wait gets 15 and no time passes, and so does the same wait again until the count is mended, as by
+ * Where that is wrong already, the wait gets 15 and no time passes; the same wait gets 15 again until the count is mended, as by
  * m95_count_pages. A wait that is too short to end the write is done.
  */
 size_t m95_event(size_t device,

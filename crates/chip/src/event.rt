@@ -248,8 +248,8 @@ pub fn answer(s: State) -> u8
     }
 }
 
-// What an event is refused with, asked before anything moves: 11 for power during a cycle, 15 for a wait that would end one on a page whose
-// count is wrong, or 0. Whatever the identification page and the latch hold.
+// What an event is refused with, asked before anything moves: 11 for power during a cycle, 15 for a wait that would end an array cycle on a
+// page whose count is wrong, or 0. What the identification page and the latch hold does not matter.
 pub fn refused(row: Row, s: State, cells: &[u8], counts: &[u16], event: Event) -> usize
     requires { ⌜ (Widths row) × (SoundCycle row (s .cycle .kind) (s .cycle .next) (s .place .start) (s .place .left)) ⌝ }
     requires { ⌜ (length (now cells) ≡ row .cells) × (length (now counts) ≡ pageCount row) ⌝ }
@@ -276,8 +276,8 @@ pub struct Tried {
     pub state: State,
 }
 
-// Any event, refused or done. A single event and the loop of a trace both come here, so that the counting of a page is compiled once and stays out
-// of that loop (docs/SPEED.md).
+// Any event, refused or done. A single event comes here, and the loop of a trace with a wait or power, so that the counting of a page is
+// compiled once and stays out of that loop (docs/SPEED.md).
 pub fn attempt(
     row: Row,
     s: State,

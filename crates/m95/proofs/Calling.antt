@@ -9,7 +9,7 @@ use mir.Val.{boolByte}
 use borrow.Author.Tests.{ne-eqb}
 use Rattle.rules.specs.declared.Row.{Row}
 use Rattle.rules.specs.declared.Event.{Event}
-use Rattle.rules.specs.World.{bit, number, World}
+use Rattle.rules.specs.World.{bit, World}
 use Rattle.rules.specs.Device.{Widths, rowOf}
 use Rattle.rules.specs.Instruction.{busy}
 use Rattle.rules.specs.Send.{statusByte}

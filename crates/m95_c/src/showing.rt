@@ -10,7 +10,7 @@ use crate::reading::state_of;
 use lent::judging::memory_refused;
 use rules::Region;
 
-// How many cells a device has, how many bytes a page of it, how many its identification page, which may have none, and how many pages.
+// How many cells a device has, how many bytes a page of it, how many its identification page, which may have none, and how many pages its cells make.
 pub struct Sizes {
     pub cells: usize,
     pub page: usize,

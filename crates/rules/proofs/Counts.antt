@@ -1,5 +1,5 @@
 -- W-204's theorems: `filled-says`, `counts-kept`, `counts-never-refuse`, both for the public calls, and how counts come to agree.
-use Prim.Native.Nat.{ℕ, zero, suc, _+_, _*_, _/_, _%_, _≤_, _<_}
+use Prim.Native.Nat.{ℕ, zero, suc, _+_, _*_, _/_, _≤_, _<_}
 use mathlib.Core.Path.{_≡_, refl, sym, ap, _∙_, subst}
 use mathlib.Core.Bool.{Bool, true, false, not, _&&_}
 use mathlib.Core.List.{List}
@@ -16,14 +16,14 @@ use Rattle.rules.specs.Instruction.{changes, busy}
 use Rattle.rules.specs.Cycle.{written, filled, isMiscounted, recounted, ends, waited}
 use Rattle.rules.specs.Event.{refusal, react, step, next}
 use Rattle.rules.specs.Sound.{Sound, Lent, isSound}
-use Rattle.rules.specs.Trace.{two, eventAt, Progress, progressOf, turn, run}
+use Rattle.rules.specs.Trace.{eventAt, Progress, progressOf, turn, run}
 use Rattle.rules.specs.Call.{memoryRefusal, lentRefusal, worldRefusal, prepareOutcome, recountedTo, countOutcome, eventOutcome, runOutcome}
 use Rattle.rules.specs.Counts.{FilledSays, Agree, Agreeing, CountsKept, CountsNeverRefuse, Reliable, CountsInEvents, CountsInTraces, PreparedAgrees, CountedAgrees}
 use Rattle.rules.proofs.Choice.{if-elim, clash, and-right, number-small}
 use Rattle.rules.proofs.Latch.{zeros}
 use Rattle.rules.proofs.Preserved.{preserved}
 use Rattle.rules.proofs.Program.{world-facts}
-use Rattle.rules.proofs.Runs.{refusedNext, by-turn, refused-late}
+use Rattle.rules.proofs.Runs.{by-turn, refused-late}
 use Rattle.rules.proofs.Widths.{of-device, page-positive, page-count, page-inside, pages-apart}
 
 -- What one cell adds.
@@ -46,14 +46,14 @@ adds-one x n = go (eqb x 0xFF) refl
     go true e = absurd (n (eqb-true x 0xFF e))
     go false e = refl
 
-adds-least : (x : ℕ) → adds x ≤ 1
+adds-most : (x : ℕ) → adds x ≤ 1
 unfolding adds
-adds-least x = number-small (not (eqb x 0xFF))
+adds-most x = number-small (not (eqb x 0xFF))
 
-pub filled-least : (n a : ℕ) (cells : List ℕ) → filled n a cells ≤ n
+pub filled-most : (n a : ℕ) (cells : List ℕ) → filled n a cells ≤ n
 unfolding filled adds
-filled-least zero a cells = omega arith
-filled-least (suc n) a cells = omega (arith, filled-least n a cells, adds-least (getD cells (a + n) 0))
+filled-most zero a cells = omega arith
+filled-most (suc n) a cells = omega (arith, filled-most n a cells, adds-most (getD cells (a + n) 0))
 
 -- The last of n places, or one before it.
 last-or : {P : ℕ → Type 0} (n : ℕ) → P n → ((i : ℕ) → i < n → P i) → (i : ℕ) → i < suc n → P i
@@ -76,8 +76,8 @@ module _ (a : ℕ) (cells : List ℕ) where
   all-filled zero f = λ i h. absurd (not-suc-le-zero h)
   all-filled (suc n) f =
       let x = getD cells (a + n) 0 in
-      let most = adds-least x in
-      let before = filled-least n a cells in
+      let most = adds-most x in
+      let before = filled-most n a cells in
       last-or {P = λ (i : ℕ). getD cells (a + i) 0 ≡ 0xFF → ⊥} n (λ e. let none : adds x ≡ 0 = ap adds e in absurd (omega arith)) (all-filled n (omega arith))
 
   full-filled : (n : ℕ) → ((i : ℕ) → i < n → getD cells (a + i) 0 ≡ 0xFF → ⊥) → filled n a cells ≡ n

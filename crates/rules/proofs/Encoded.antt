@@ -68,10 +68,10 @@ module _ (row : Row) (e : Event) (w : World) (z : refusal row e w ≡ 0) where
 
 -- The parts of the test for events that a run can do.
 module _ (row : Row) (e : Event) (es : List Event) (w : World) (r : runnable row (e ∷ es) w ≡ true) where
-  pub first-taken : (fits e && eqb (refusal row e w) 0) ≡ true
+  first-taken : (fits e && eqb (refusal row e w) 0) ≡ true
   first-taken = and-left (fits e && eqb (refusal row e w) 0) (runnable row es (next row e w)) r
 
-  pub rest-runs : runnable row es (next row e w) ≡ true
+  rest-runs : runnable row es (next row e w) ≡ true
   rest-runs = and-right (fits e && eqb (refusal row e w) 0) (runnable row es (next row e w)) r
 
   first-fits : fits e ≡ true

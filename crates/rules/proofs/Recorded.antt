@@ -2,20 +2,20 @@
 -- recorded events.
 use Prim.Native.Nat.{ℕ, suc, _+_, _≤_}
 use mathlib.Core.Path.{_≡_, refl, sym, ap, _∙_, subst₂}
-use mathlib.Core.Bool.{true, false, _&&_}
+use mathlib.Core.Bool.{true, false}
 use mathlib.Core.List.{List, [], _∷_, _++_, map}
 use native.Mathlib.Omega.{arith}
 use lib.ListN.{drop, length, length-append}
 use lib.Seq.{drop-drop}
-use lib.Dec.{eqb, leb}
+use lib.Dec.{leb}
 use borrow.Author.Tests.{le-leb}
 use Rattle.rules.specs.World.{Row, Event, World}
 use Rattle.rules.specs.Device.{m95128d, rowOf, prepared}
-use Rattle.rules.specs.Event.{refusal, next, after}
+use Rattle.rules.specs.Event.{next, after}
 use Rattle.rules.specs.Trace.{progressOf, run}
 use Rattle.rules.specs.Call.{worldRefusal, runOutcome}
-use Rattle.rules.specs.Selections.{Visible, visible, sights, Inside, Cut, heard, heardLeft, happened, remaining}
-use Rattle.rules.specs.Recorded.{Demand3Devices, Demand3Seven, recorded, fits, runnable, outside, outsideLeft, seen, Alike, Demand3Run, IncidentRun}
+use Rattle.rules.specs.Selections.{visible, sights, Inside, Cut, heard, heardLeft, happened, remaining}
+use Rattle.rules.specs.Recorded.{Demand3Devices, Demand3Seven, recorded, runnable, outside, outsideLeft, seen, Alike, Demand3Run, IncidentRun}
 use Rattle.rules.proofs.Choice.{and-both}
 use Rattle.rules.proofs.Encoded.{byteOf, run-recorded}
 use Rattle.rules.proofs.Incident.{prepared-sound, prepared-lent, incident}

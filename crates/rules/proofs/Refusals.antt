@@ -1,5 +1,5 @@
 -- The theorem `refusals`, from the tables of the calls.
-use mathlib.Core.List.{List, [], _∷_, _++_}
+use mathlib.Core.List.{List, _++_}
 use Rattle.rules.specs.World.{Each, none, _and_}
 use Rattle.rules.specs.Refusals.{Refusals}
 use Rattle.rules.proofs.PrepareLines.{preparing}

@@ -1,10 +1,9 @@
 -- W-204 as statements: what a count says, that the counts stay right whatever happens, and that right counts are never refused.
 use Rattle.rules.specs.World.{ℕ, _+_, _*_, _<_, _≡_, List, getD, Row, Event, World}
-use Rattle.rules.specs.Device.{Widths, rowOf, pageCount, prepared}
+use Rattle.rules.specs.Device.{Widths, rowOf, pageCount}
 use Rattle.rules.specs.Cycle.{filled}
 use Rattle.rules.specs.Event.{refusal, next}
 use Rattle.rules.specs.Sound.{Sound, Lent}
-use Rattle.rules.specs.Trace.{Progress}
 use Rattle.rules.specs.Call.{prepareOutcome, countOutcome, eventOutcome, runOutcome}
 
 -- The theorem `filled-says`: none of n cells from a on is filled exactly if each is FFh, and all n are exactly if none is.

@@ -1,5 +1,5 @@
 -- The device table, and preparing a device.
-use Rattle.rules.specs.World.{ℕ, _+_, _-_, _*_, _/_, _%_, _^_, _≤_, _<_, _≡_, Bool, true, false, not, _&&_}
+use Rattle.rules.specs.World.{ℕ, _-_, _*_, _/_, _%_, _^_, _≤_, _<_, _≡_, Bool, true, false, not, _&&_}
 use Rattle.rules.specs.World.{List, [], _∷_, _++_, getD, length, replicate, eqb, leb, ltb, if_then_else_, Sheet, Row, Instruction, Kind, Level, State, World}
 
 -- W-203, a line of the service sheet: the first protected address under BP 00, 01, 10 and 11. Under 00, which protects nothing, it is the

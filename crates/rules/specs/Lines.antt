@@ -1,6 +1,6 @@
--- 01, "Numbers given back", by example: a line is a call with its whole outcome beside it (the answer, the counts, the state and every lent
--- buffer), and the worlds that the lines of several calls speak of. Where two faults stand together, the earlier number is given.
-use Rattle.rules.specs.World.{ℕ, _≡_, Bool, true, false, List, [], _∷_, _++_, replicate, Kind, Region, Event, Stored, State, World, worldOf, Each}
+-- 01, "Numbers given back", by example: a line is a call with its whole outcome beside it (the answer, the records done and bytes taken,
+-- the state and every lent buffer), and the worlds that the lines of several calls speak of. Where two faults stand together, the earlier number is given.
+use Rattle.rules.specs.World.{ℕ, _≡_, true, false, List, [], _∷_, _++_, replicate, Kind, Region, Event, Stored, State, World, worldOf, Each}
 use Rattle.rules.specs.World.{withPins, withSelection, withStored, withState, withLatch}
 use Rattle.rules.specs.Device.{preparedState}
 use Rattle.rules.specs.Trace.{Progress}
@@ -66,7 +66,8 @@ busy left = withStored (record { status = 0x0C; wel = true; locked = true }) (re
 abbrev pub inCycle : World
 inCycle = withState (busy 5000) good
 
--- The same with a latch that blanks half of the page, and counts that are wrong for every page but this; and with the one wrong that matters.
+-- The same with a latch that blanks half of the page, and wrong counts for every other page. `counting n` gives this page the count n, which is
+-- right for 16; `miscounted` gives it 15.
 abbrev pub blanking : List ℕ
 blanking = replicate 16 0xFF ++ replicate 8 1 ++ replicate 8 0
 

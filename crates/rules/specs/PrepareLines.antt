@@ -47,7 +47,7 @@ abbrev pub prepare-a-page-where-there-is-none : Line
 prepare-a-page-where-there-is-none =
     prepare 5 (replicate 128 7) (replicate 16 8) (9 ∷ []) (6 ∷ []) (preparedAs 3 (lent (replicate 128 7) (replicate 16 8) (9 ∷ []) (6 ∷ [])))
 
--- Counting afresh: on an M95010 a blank page, a full one, one with a cell, and what was counted before does not matter; refused it leaves the counts.
+-- Counting afresh: on an M95010 a blank page, a full one, one with a single cell other than FFh, and what was counted before does not matter; refused it leaves the counts.
 abbrev cells : List ℕ
 cells = replicate 16 0xFF ++ replicate 16 0 ++ replicate 15 0xFF ++ 0xFE ∷ replicate 80 7
 

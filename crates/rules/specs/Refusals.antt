@@ -1,6 +1,6 @@
 -- 01, "Numbers given back", by example: all the tables of calls together.
-use Rattle.rules.specs.World.{List, _++_}
-use Rattle.rules.specs.Lines.{Line, Given}
+use Rattle.rules.specs.World.{_++_}
+use Rattle.rules.specs.Lines.{Given}
 use Rattle.rules.specs.PrepareLines.{preparing}
 use Rattle.rules.specs.EventLines.{events}
 use Rattle.rules.specs.RunLines.{runs}

@@ -1,5 +1,5 @@
 -- A view, and the first record of the bench, by example: each number that they can give, with the part shown or the device named.
-use Rattle.rules.specs.World.{ℕ, List, [], _∷_, _++_, replicate, Region, World}
+use Rattle.rules.specs.World.{ℕ, List, [], _∷_, _++_, replicate, Region}
 use Rattle.rules.specs.Call.{shownAs, firstAs}
 use Rattle.rules.specs.Lines.{Line, view, first, small}
 

@@ -31,7 +31,7 @@ abbrev pub if_then_else_ {ℓ} : {A : Type ℓ} → Bool → A → A → A
 if_then_else_ true a b = a
 if_then_else_ false a b = b
 
--- 01, "The device's state": the state, and the buffers that are lent; with W-204 a count for each page among them.
+-- 01, "The device's state": the state, and the buffers that are lent; since W-204 a count for each page is among them.
 pub record World : Type 0 where
   pub state : State
   pub cells : List ℕ

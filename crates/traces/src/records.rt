@@ -1,4 +1,4 @@
-// Running a trace's records, on a device that is sound: `preserved` keeps it so, and no page is looked at twice.
+// Running a trace's records, on a device that is sound: `preserved` keeps it so, and it is judged once.
 
 ghost use mathlib.Core.Path.{_≡_};
 ghost use Rattle.rules.specs.World.{worldOf};

@@ -1,6 +1,6 @@
 -- `memory::counts::recount` meets its contract.
 use native.Mathlib.Omega.{arith}
-use Rattle.rules.proofs.Counts.{filled-least}
+use Rattle.rules.proofs.Counts.{filled-most}
 use Rattle.rules.proofs.Widths.{page-room, page-count}
 use borrow.Author.Needs.{needs}
 use Rattle.memory.proofs.counts.recount.Statement.{statement}
@@ -17,7 +17,7 @@ filled-in-requires c κs =
 cast-counts : tie.Need-cast-counts
 cast-counts c =
     let start = c .before .before .before .before in
-    omega (arith, c .filled-in .ensures, filled-least (start .args .row .page) (start .args .start) (start .args .cells .now), start .pre .0 .0 .pageMost)
+    omega (arith, c .filled-in .ensures, filled-most (start .args .row .page) (start .args .start) (start .args .cells .now), start .pre .0 .0 .pageMost)
 
 mul-counts : tie.Need-mul-counts
 mul-counts c =

@@ -11,7 +11,6 @@ use Rattle.player.specs.Playing.{Playable}
 use Rattle.rules.proofs.Choice.{and-left}
 use Rattle.player.proofs.pieces.play_all.Statement.{statement}
 use Rattle.player.proofs.pieces.play_all.Tie as tie
-use borrow.Author.Needs.{needs}
 
 abbrev Inv-loop : tie.InvT-loop
 Inv-loop device cells₀ identification₀ latch₀ counts₀ buf₀ answers₀ trace output p₀ turns₀ cells identification latch counts buf answers p turns =
