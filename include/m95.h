@@ -126,6 +126,16 @@ size_t m95_prepare(size_t device,
 size_t m95_count_pages(size_t device, const uint8_t *cells, size_t cells_length, uint16_t *counts, size_t counts_length);
 
 /*
+ * Looks for room, for whoever wants to add something to a chip: for the lowest page that has a count of 0. It gives 1, 14, or 0. A page that
+ * it finds makes `found` 1, and `page` is then that page's number, not an address: its cells start at page * m95_page(device). Otherwise it
+ * leaves 0 in both, refused or not; since the first page has that number too, look at `found` before `page`.
+ *
+ * No cell is read, and the counts are taken at their word: m95_prepare and events keep them right, and then all cells of the page are FFh.
+ * After cells were filled otherwise m95_count_pages comes first, or else the page may have something in it.
+ */
+size_t m95_first_blank(size_t device, const uint16_t *counts, size_t counts_length, size_t *found, size_t *page);
+
+/*
  * Puts the state of a device that has just got its power and has stored this before: status bits, as the status register has them, which
  * are 3 and 2, and 7 where there is SRWD; and the lock, 0 or, where there is an identification page, 1. All else is as m95_prepare leaves
  * it: the pins, nothing selected, WEL 0 and no cycle. 1; then 5 where the state's room is not M95_STATE_BYTES long, where the status has any

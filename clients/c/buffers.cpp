@@ -40,6 +40,15 @@ struct Chip {
 
     std::size_t count() { return m95_count_pages(device, cells.data(), cells.size(), counts.data(), counts.size()); }
 
+    std::size_t first_blank(std::size_t &found, std::size_t &page) const {
+        return m95_first_blank(device, counts.data(), counts.size(), &found, &page);
+    }
+
+    bool is_first_blank(std::size_t number) const {
+        std::size_t found = 9, page = 9;
+        return first_blank(found, page) == M95_DONE && found == 1 && page == number;
+    }
+
     std::size_t view(std::size_t region) const {
         std::size_t start = 9, length = 9;
         return m95_view(device, region, cells.data(), cells.size(), identification.data(), identification.size(), 0, &start, &length);
@@ -104,6 +113,7 @@ void lend_nothing(const Chip &good) {
     const std::size_t numbers[] = {M95_REFUSED_STATE, M95_REFUSED_CELLS, page, M95_REFUSED_LATCH, M95_REFUSED_COUNTS, M95_REFUSED_CELLS};
     const std::size_t views[] = {M95_DONE, M95_REFUSED_CELLS, page, M95_DONE, M95_DONE, M95_REFUSED_CELLS};
     const std::size_t counted[] = {M95_DONE, M95_REFUSED_CELLS, M95_DONE, M95_DONE, M95_REFUSED_COUNTS, M95_REFUSED_CELLS};
+    const std::size_t searched[] = {M95_DONE, M95_DONE, M95_DONE, M95_DONE, M95_REFUSED_COUNTS, M95_REFUSED_COUNTS};
     for (std::size_t none = 0; none <= all; none++) {
         Chip chip = good;
         Bytes *const buffers[] = {&chip.state, &chip.cells, &chip.identification, &chip.latch};
@@ -119,6 +129,9 @@ void lend_nothing(const Chip &good) {
         expect(chip.view(M95_REGION_CELLS) == views[none], "a view of the cells judges both vectors", chip.device);
         expect(chip.view(M95_REGION_IDENTIFICATION) == views[none], "and so does one of the identification page", chip.device);
         expect(chip.count() == counted[none], "counting judges cells and counts", chip.device);
+        std::size_t found = 9, page = 9;
+        expect(chip.first_blank(found, page) == searched[none], "a search judges the counts alone", chip.device);
+        expect(searched[none] == M95_DONE || found + page == 0, "and finds nothing where there are none", chip.device);
     }
 }
 
@@ -145,7 +158,9 @@ int main() {
     for (std::size_t device = 1; device <= 7; device++) {
         Chip chip(device);
         expect(chip.prepare() == M95_DONE && chip.refusal() == M95_DONE, "a device is prepared", device);
+        expect(chip.is_first_blank(0), "its first page is blank", device);
         write_and_read(chip, 1);
+        expect(chip.is_first_blank(1), "the next page is blank", device);
         chip.cells[1] = chip.cells[2] = 0x00;
         expect(chip.count() == M95_DONE && chip.counts[0] == 3, "the pages are counted afresh", device);
         write_and_read(chip, 3);

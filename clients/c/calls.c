@@ -2,6 +2,7 @@
  * Calls everything that m95.h declares, as a program in C would, and holds the answers to document 01: its numbers in their order, the
  * examples that a caller can see, and buffers that a refused call must leave. Prints each expectation that fails, and a last line.
  */
+#include "blank.h"
 #include "chip.h"
 #include "counts.h"
 #include "saved.h"
@@ -133,6 +134,8 @@ static void nulls(void) {
     expect(m95_refusal(0, NOTHING) == M95_REFUSED_DEVICE && m95_prepare(0, NOTHING) == M95_REFUSED_DEVICE, "no device, no buffers", 0);
     expect(m95_load(0, NULL, 0, 0, 0) == M95_REFUSED_DEVICE, "loading no device into NULL", 0);
     expect(m95_count_pages(0, NULL, 0, NULL, 0) == M95_REFUSED_DEVICE, "counting nothing", 0);
+    first = second = 9;
+    expect(m95_first_blank(0, NULL, 0, &first, &second) == M95_REFUSED_DEVICE && first == 0 && second == 0, "a search of nothing", first);
     expect(m95_event(0, NOTHING, M95_WAIT, 0, &answer) == M95_REFUSED_DEVICE && answer == M95_Z, "an event of nothing", answer);
     expect(m95_run(0, NOTHING, NULL, 0, NULL, 0, 1, &first, &second) == M95_REFUSED_DEVICE, "a trace of nothing", 0);
     expect(m95_view(0, M95_REGION_CELLS, NULL, 0, NULL, 0, 0, &first, &second) == M95_REFUSED_DEVICE, "a view of nothing", 0);
@@ -499,6 +502,7 @@ int main(void) {
     wrong_counts();
     uncounted_cycles();
     counted_traces();
+    searches();
     views();
     statuses();
     versions();

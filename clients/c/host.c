@@ -2,8 +2,9 @@
  * host DEVICE STATUS LOCK IMAGE TRACE SAVED: a host of the library that keeps a chip's cells in a raw image, as programmers and flashrom
  * write it. It plays TRACE on the chip of IMAGE and puts the cells into SAVED, a new file. An image of cells has neither status bits nor
  * lock, so these are words, in hexadecimal, and are told at the end for the next time; nor has it the identification page, which is each
- * time as it left the factory. A write that still runs at the end, which bit 0 of the status shows, is not in SAVED. Ends with 0, with 1
- * where the trace was refused at a record, or with 2, and then SAVED is missing or, on a full disk, cut short.
+ * time as it left the factory. A write that still runs at the end, which bit 0 of the status shows, is not in SAVED. The last line that it
+ * prints says where SAVED has room: its first blank page, if there is one. Ends with 0, with 1 where the trace was refused at a record, or
+ * with 2, and then SAVED is missing or, on a full disk, cut short.
  */
 #include <errno.h>
 #include <stdio.h>
@@ -47,7 +48,7 @@ static int read_cells(const char *name, size_t length) {
 
 int main(int count, char **words) {
     size_t device = count == 7 ? number_of(words[1], 10) : 0, length = m95_cells(device);
-    size_t records = 0, left = 0, more, taken, done, number, status, stored, lock;
+    size_t records = 0, left = 0, more, taken, done, number, status, stored, lock, found, page;
     if (m95_prepare(device, LENT) != M95_DONE) {
         return tell("it takes a device, 1 to 7, and five more words", "host DEVICE STATUS LOCK IMAGE TRACE SAVED");
     }
@@ -78,6 +79,12 @@ int main(int count, char **words) {
     }
     m95_status_byte(state, sizeof state, &status);
     m95_stored(state, sizeof state, &stored, &lock);
+    m95_first_blank(device, counts, m95_pages(device), &found, &page); /* the trace has kept the counts right */
     printf("number %zu, records %zu, status %02zX, stored %02zX, lock %zu\n", number, records, status, stored, lock);
+    if (found) {
+        printf("the first blank page is %zu, from %04zXh on\n", page, page * m95_page(device));
+    } else {
+        printf("no page is blank\n");
+    }
     return number == M95_DONE ? 0 : 1;
 }

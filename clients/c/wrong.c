@@ -50,6 +50,32 @@ enum way {
     COUNTS_IN_A_BYTE,
     LAST_PAGE_UNCOUNTED,
     REFUSED_COUNTING_CLEARS_COUNTS,
+    LAST_BLANK_PAGE_FOUND,
+    PAGE_0_UNSEARCHED,
+    LAST_PAGE_UNSEARCHED,
+    PAGE_PAST_THE_LAST_SEARCHED,
+    COUNTS_SEARCHED_IN_A_BYTE,
+    HIGHEST_COUNT_TAKEN_AS_BLANK,
+    LOWEST_COUNT_FOUND_WHERE_NONE_IS_BLANK,
+    SEARCH_ENDED_BY_A_FULL_PAGE,
+    SEARCHES_SHORTER_COUNTS,
+    SEARCHES_LONGER_COUNTS,
+    SEARCHES_NULL,
+    SEARCHES_A_LARGE_NUMBER,
+    SEARCHED_COUNTS_JUDGED_BEFORE_DEVICE,
+    NO_BLANK_PAGE_REFUSED,
+    IMPOSSIBLE_COUNT_REFUSED,
+    BLANK_PAGE_TOLD_BY_ITS_ADDRESS,
+    BLANK_PAGE_TOLD_FROM_1,
+    FOUND_WITHOUT_ITS_PAGE,
+    PAGE_WITHOUT_FOUND,
+    PAGE_0_TAKEN_AS_NONE,
+    FOUND_TELLS_HOW_MANY,
+    FOUND_LEFT_WHERE_NONE_IS_BLANK,
+    PAGE_LEFT_WHERE_NONE_IS_BLANK,
+    FOUND_LEFT_BY_A_REFUSED_SEARCH,
+    PAGE_LEFT_BY_A_REFUSED_SEARCH,
+    SEARCH_CHANGES_A_COUNT,
     REFUSED_EVENT_ANSWERS_0,
     KIND_REFUSED_AS_PIN,
     PIN_TEN_TAKEN,
@@ -159,6 +185,7 @@ size_t __real_m95_pages(size_t device);
 size_t __real_m95_refusal(size_t device, ONLY_READ);
 size_t __real_m95_prepare(size_t device, WRITTEN);
 size_t __real_m95_count_pages(size_t device, const uint8_t *cells, size_t cells_length, uint16_t *counts, size_t counts_length);
+size_t __real_m95_first_blank(size_t device, const uint16_t *counts, size_t counts_length, size_t *found, size_t *page);
 size_t __real_m95_load(size_t device, uint8_t *state, size_t state_length, size_t status, size_t lock);
 size_t __real_m95_event(size_t device, WRITTEN, size_t kind, size_t value, size_t *answer);
 size_t __real_m95_run(size_t device, WRITTEN, const uint8_t *trace, size_t trace_length, uint8_t *answers, size_t answers_length, size_t limit,
@@ -341,6 +368,117 @@ size_t __wrap_m95_count_pages(size_t device, const uint8_t *cells, size_t cells_
         return M95_REFUSED_COUNTS;
     }
     return way() == COUNTS_INTO_NULL && number == M95_REFUSED_COUNTS && counts == NULL ? M95_DONE : number;
+}
+
+/* What a search tells. */
+struct told {
+    size_t found, page;
+};
+
+/* Whether a search that is wrong about a count takes it for that of a blank page. */
+static int is_taken_as_blank(uint16_t count) {
+    if (way() == HIGHEST_COUNT_TAKEN_AS_BLANK && count == 65535) {
+        return 1;
+    }
+    return (way() == COUNTS_SEARCHED_IN_A_BYTE ? count & 255 : count) == 0;
+}
+
+/* A search that is wrong about where to look, or about the counts. */
+static struct told search_wrongly(size_t device, const uint16_t *counts, size_t pages) {
+    const size_t end = way() == LAST_PAGE_UNSEARCHED ? pages - 1 : way() == PAGE_PAST_THE_LAST_SEARCHED ? pages + 1 : pages;
+    struct told told = {0, 0};
+    size_t lowest = 0;
+    for (size_t k = way() == PAGE_0_UNSEARCHED; k < end && (told.found == 0 || way() == LAST_BLANK_PAGE_FOUND); k++) {
+        if (is_taken_as_blank(counts[k])) {
+            told = (struct told){1, k};
+        }
+        if (way() == SEARCH_ENDED_BY_A_FULL_PAGE && counts[k] == __real_m95_page(device)) {
+            return told;
+        }
+        lowest = counts[k] < counts[lowest] ? k : lowest;
+    }
+    return way() == LOWEST_COUNT_FOUND_WHERE_NONE_IS_BLANK && told.found == 0 ? (struct told){1, lowest} : told;
+}
+
+/* How many pages are blank. */
+static size_t blank_pages(const uint16_t *counts, size_t pages) {
+    size_t blank = 0;
+    for (size_t k = 0; k < pages; k++) {
+        blank += counts[k] == 0;
+    }
+    return blank;
+}
+
+/* A blank page, told wrong. */
+static void spoil_found(size_t device, const uint16_t *counts, size_t pages, struct told *told, struct told old) {
+    if (way() == FOUND_WITHOUT_ITS_PAGE) {
+        told->page = old.page;
+    }
+    if (way() == PAGE_WITHOUT_FOUND) {
+        told->found = old.found;
+    }
+    if (way() == PAGE_0_TAKEN_AS_NONE) {
+        told->found = told->page > 0;
+    }
+    if (way() == FOUND_TELLS_HOW_MANY) {
+        told->found = blank_pages(counts, pages);
+    }
+    if (way() == BLANK_PAGE_TOLD_BY_ITS_ADDRESS) {
+        told->page *= __real_m95_page(device);
+    }
+    told->page += way() == BLANK_PAGE_TOLD_FROM_1;
+}
+
+/* That there is none, or that the search is refused, told wrong. */
+static void spoil_nothing_found(size_t number, struct told *told, struct told old) {
+    if (way() == (number == M95_DONE ? FOUND_LEFT_WHERE_NONE_IS_BLANK : FOUND_LEFT_BY_A_REFUSED_SEARCH)) {
+        told->found = old.found;
+    }
+    if (way() == (number == M95_DONE ? PAGE_LEFT_WHERE_NONE_IS_BLANK : PAGE_LEFT_BY_A_REFUSED_SEARCH)) {
+        told->page = old.page;
+    }
+}
+
+/* The number of a search that was done, made wrong. */
+static size_t searched_number(size_t device, const uint16_t *counts, size_t pages, int is_found) {
+    for (size_t k = 0; way() == IMPOSSIBLE_COUNT_REFUSED && k < pages; k++) {
+        if (counts[k] > __real_m95_page(device)) {
+            return M95_REFUSED_COUNT;
+        }
+    }
+    return way() == NO_BLANK_PAGE_REFUSED && !is_found ? M95_REFUSED_ADDRESS : M95_DONE;
+}
+
+/* The number of a search that was refused, made wrong. */
+static size_t refused_number(size_t device, const uint16_t *counts, size_t counts_length, size_t number) {
+    if (way() == SEARCHED_COUNTS_JUDGED_BEFORE_DEVICE && number == M95_REFUSED_DEVICE && counts_length == 0) {
+        return M95_REFUSED_COUNTS;
+    }
+    int is_shorter = number == M95_REFUSED_COUNTS && counts_length < __real_m95_pages(device);
+    return is_shorter && way() == (counts == NULL ? SEARCHES_NULL : SEARCHES_SHORTER_COUNTS) ? M95_DONE : number;
+}
+
+size_t __wrap_m95_first_blank(size_t device, const uint16_t *counts, size_t counts_length, size_t *found, size_t *page) {
+    const struct told old = {*found, *page};
+    const size_t known = way() == SEARCHES_A_LARGE_NUMBER ? device & 255 : device, pages = __real_m95_pages(known);
+    const size_t length = way() == SEARCHES_LONGER_COUNTS && pages > 0 && counts_length > pages ? pages : counts_length;
+    size_t number = __real_m95_first_blank(known, counts, length, found, page);
+    number = number == M95_DONE ? searched_number(known, counts, length, *found == 1) : refused_number(known, counts, length, number);
+    struct told told = {*found, *page};
+    if (number == M95_DONE && way() >= LAST_BLANK_PAGE_FOUND && way() <= SEARCHES_SHORTER_COUNTS) {
+        told = search_wrongly(known, counts, length);
+    }
+    if (told.found) {
+        spoil_found(known, counts, length, &told, old);
+    } else {
+        spoil_nothing_found(number, &told, old);
+    }
+    *found = told.found;
+    *page = told.page;
+    if (way() == SEARCH_CHANGES_A_COUNT && number == M95_DONE) {
+        ((uint16_t *)counts)[length - 1] ^= 1;
+    }
+    return number;
 }
 
 /* Whether a way refuses an event with 15 that does not look at the counts, or not at the one that is wrong. */

@@ -1,5 +1,5 @@
-//! The calls of the library (document 01, "Traces" and "Numbers given back"; document 02, W-201, W-202 and W-204). A
-//! refused call leaves what the table of numbers says.
+//! The calls of the library (document 01, "Traces" and "Numbers given back"; document 02, W-201, W-202, W-204 and
+//! W-205). A refused call leaves what the table of numbers says.
 
 use crate::count::page_count;
 use crate::device::{device, Device};
@@ -87,6 +87,17 @@ pub fn count_pages(number: u8, cells: &[u8], counts: &mut [u16]) -> Number {
         *count = page_count(page);
     }
     Number::Done
+}
+
+/// Where there is room: the number, from 0, of the first page that counts no written cell, or none where every page
+/// has one. It is lent no cells, so it takes each count as it stands, a wrong one too. It gives 1, then 14, and no page
+/// then.
+pub fn first_blank(number: u8, counts: &[u16]) -> (Number, Option<usize>) {
+    let row = device(number).ok_or(Number::Device);
+    match row.and_then(|row| judge_counts(row, counts)) {
+        Ok(_) => (Number::Done, counts.iter().position(|&count| count == 0)),
+        Err(number) => (number, None),
+    }
 }
 
 /// Does one event; a refused one answers Z.
@@ -220,7 +231,7 @@ fn judge_stored(
     Ok(row)
 }
 
-/// Number 14. The counts themselves are not looked at: a wrong one is found where its page is written.
+/// Number 14. The counts themselves are not judged: a wrong one is found where its page is written.
 fn judge_counts(row: &'static Device, counts: &[u16]) -> Result<&'static Device, Number> {
     if counts.len() != row.pages() {
         return Err(Number::Counts);

@@ -1,8 +1,10 @@
 //! Runs other programs beside the model on generated traces and looks for the first difference.
 //!
 //! The programs are used as `play` and `bench` are. Traces for `play` are long, since starting a process may cost
-//! more than running one, and go on from chip to chip in chains.
+//! more than running one, and go on from chip to chip in chains. `play` is also asked for the first blank page, of the
+//! chip that each run left and of some made for this.
 
+mod blanks;
 mod external;
 
 use std::io;
@@ -35,7 +37,7 @@ pub struct Order {
     pub keep: PathBuf,
 }
 
-/// What was done with one profile.
+/// What was done with one profile, or with questions of one sort, which are runs without records.
 #[derive(Clone, Copy, Default)]
 pub struct Tally {
     pub runs: usize,
@@ -43,10 +45,22 @@ pub struct Tally {
     pub differences: usize,
 }
 
+impl Tally {
+    fn add(&mut self, records: usize, difference: &Option<String>) {
+        self.runs += 1;
+        self.records += records;
+        self.differences += usize::from(difference.is_some());
+    }
+}
+
 /// The first difference in words, and the tally of each profile in the order of `Profile::ALL`.
+#[derive(Default)]
 pub struct Outcome {
     pub difference: Option<String>,
     pub tallies: [Tally; Profile::ALL.len()],
+    /// Questions for the first blank page of chips that runs left, and of those made for this.
+    pub blank_left: Tally,
+    pub blank_made: Tally,
 }
 
 impl Outcome {
@@ -91,6 +105,7 @@ struct Comparison {
 }
 
 /// What one run is about, for the report.
+#[derive(Clone, Copy)]
 struct Run {
     profile: Profile,
     device: &'static Device,
@@ -111,10 +126,7 @@ impl Comparison {
             play_tail: random.below(TAILS),
             bench_tail: random.below(TAILS),
             random,
-            outcome: Outcome {
-                difference: None,
-                tallies: Default::default(),
-            },
+            outcome: Outcome::default(),
         })
     }
 
@@ -123,12 +135,13 @@ impl Comparison {
     }
 
     /// Every profile on every device once, the refused ones more often. The odd inputs are always the same, so once is
-    /// enough for them.
+    /// enough for them, and so it is for the chips made to be asked about, which differ little.
     fn round(&mut self, round: usize) -> io::Result<()> {
         if round == 0 {
             for which in 0..ODD_BENCH_INPUTS {
                 self.odd_input_run(which)?;
             }
+            self.ask_about_made()?;
         }
         for profile in Profile::ALL {
             let (plays, benches) = match profile {
@@ -185,7 +198,8 @@ impl Comparison {
             self.files.write("answers-expected", &played.answers)?;
             self.files.write("chip-expected", &expected_chip)?;
         }
-        self.note(run, played.ran.done, difference)
+        self.note(&run, played.ran.done, difference);
+        self.ask_about_left(&program, &run)
     }
 
     /// The chip to begin with: the one of the run before, or a missing file, a raw image, or any contents. A locked
@@ -259,28 +273,35 @@ impl Comparison {
         let difference = text_difference(&expected, &given);
         // A header, a line for each record, and the end.
         let records = expected.lines().count().saturating_sub(2);
-        self.note(run, records, difference)
+        self.note(&run, records, difference);
+        Ok(())
     }
 
-    fn note(&mut self, run: Run, records: usize, difference: Option<String>) -> io::Result<()> {
+    fn note(&mut self, run: &Run, records: usize, difference: Option<String>) {
         let index = Profile::ALL.iter().position(|&one| one == run.profile);
         let tally = &mut self.outcome.tallies[index.expect("a profile of the list")];
-        tally.runs += 1;
-        tally.records += records;
-        let Some(difference) = difference else {
-            return Ok(());
-        };
-        tally.differences += 1;
-        self.files.keep();
-        self.outcome.difference = Some(format!(
-            "{} differs: seed {} (of the comparison {}), profile {}, device {}: {difference}",
+        tally.add(records, &difference);
+        self.keep(self.place(run), difference);
+    }
+
+    fn place(&self, run: &Run) -> String {
+        format!(
+            "{} differs: seed {} (of the comparison {}), profile {}, device {}",
             run.program,
             run.seed,
             self.seed,
             run.profile.name(),
             run.device.number
-        ));
-        Ok(())
+        )
+    }
+
+    /// Keeps a difference with its place, and its files.
+    fn keep(&mut self, place: String, difference: Option<String>) {
+        let Some(difference) = difference else {
+            return;
+        };
+        self.files.keep();
+        self.outcome.difference = Some(format!("{place}: {difference}"));
     }
 }
 

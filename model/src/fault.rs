@@ -1,5 +1,6 @@
 //! Named ways to be wrong. `mistakes` makes them; `sharpness` uses them to show that the generated traces, or else the
-//! inputs of the bench program or the chosen views, states, loads, wrong counts and lent lengths, would notice each one.
+//! inputs of the bench program or the chosen views, states, loads, wrong counts, lent lengths and questions for a blank
+//! page, would notice each one.
 
 /// Declares the enum, the list of all faults and their meanings from one table.
 macro_rules! faults {
@@ -18,8 +19,15 @@ macro_rules! faults {
             /// Whether the mistake is that of a device on a trace, from counts that agree with the cells.
             pub fn is_of_trace(self) -> bool {
                 let of_calls = self.is_of_view() || self.is_of_state() || self.is_of_load();
-                let of_counts = self.is_of_wrong_count() || self.is_of_lent();
+                let of_counts = self.is_of_wrong_count() || self.is_of_lent() || self.is_of_blank();
                 !(self.is_of_bench() || of_calls || of_counts)
+            }
+
+            /// Whether the mistake is one that `play` can have. It looks for a blank page in counts that it made itself,
+            /// so it never has wrong ones, too many or too few of them, or a device that is not in the table.
+            pub fn is_of_play(self) -> bool {
+                let of_odd_counts = self.starts_with("BlankWrong") || self.starts_with("BlankLent");
+                self.is_of_trace() || self.is_of_blank() && !of_odd_counts
             }
 
             /// Whether the mistake is the bench program's and not the library's.
@@ -55,6 +63,11 @@ macro_rules! faults {
             /// Whether the mistake is that of judging the lent counts, or of preparing them, which comes before a trace.
             pub fn is_of_lent(self) -> bool {
                 self.starts_with("Counts")
+            }
+
+            /// Whether the mistake is that of looking for a blank page, which no trace asks for.
+            pub fn is_of_blank(self) -> bool {
+                self.starts_with("Blank")
             }
 
             fn starts_with(self, word: &str) -> bool {
@@ -376,6 +389,45 @@ faults! {
     CountsLongerTaken = "a counts buffer that is too long is taken",
     CountsHaveIdentification = "an identification page has a count of its own",
     CountsLeftByPreparing = "preparing leaves the counts",
+    // The first blank page: which one is given.
+    BlankIsLast = "the last blank page is given and not the first",
+    BlankBehindLastWritten = "the page behind the last written one is given, as if no page before it were blank",
+    BlankZeroNotLookedAt = "the search for a blank page starts at page 1",
+    BlankLastNotLookedAt = "the search for a blank page ends before the last page",
+    BlankPast255NotLookedAt = "only the first 256 pages are looked at for a blank one",
+    BlankEndsAtWritten = "the search for a blank page ends at the first page that is not blank",
+    // The first blank page: what a count says.
+    BlankByLowByte = "a page is taken for blank if the low byte of its count is 0",
+    BlankTakesFull = "a full page is taken for blank too",
+    BlankIsFull = "the first full page is given, and no blank one",
+    BlankTakesOneCell = "a page with one written cell is taken for blank",
+    BlankIsLeastWritten = "the page with the lowest count is given, blank or not",
+    // The first blank page: how the answer is told.
+    BlankIsAddress = "a blank page is given by the address of its first cell",
+    BlankFromOne = "a blank page is given by its number from 1",
+    BlankNumberInByte = "the number of a blank page keeps its low byte",
+    BlankNoneIsZero = "page 0 is given where no page is blank",
+    BlankNoneIsLast = "the last page is given where no page is blank",
+    BlankNoneIsPages = "the number of pages is given as a page where none is blank",
+    BlankNoneIsRefused = "14 is given where no page is blank",
+    // The first blank page: counts that no page can have.
+    BlankWrongRefused = "a count above a page's cells that is met in the search gives 15",
+    BlankWrongIsBlank = "a page whose count is above its cells is taken for blank",
+    BlankWrongEndsSearch = "the search for a blank page ends with none at a count above a page's cells",
+    BlankWrongIsNegative = "a count of 32,768 or more is taken for less than 1, and its page for blank",
+    // The first blank page: the device and the lent buffer.
+    BlankLentLongerTaken = "a blank page is looked for in the first counts of a buffer that is too long",
+    BlankLentLongerSearched = "a blank page is looked for in all counts of a buffer that is too long",
+    BlankLentShorterTaken = "a blank page is looked for in a counts buffer that is too short",
+    BlankLentEmptyTaken = "no page is blank in a counts buffer of length 0",
+    BlankLentOfOtherTaken = "a blank page is looked for in a counts buffer of another device's length",
+    BlankLentHasIdentification = "an identification page has a count too in the search for a blank page",
+    BlankLentRefusalIsNone = "a counts buffer of wrong length is told as no blank page",
+    BlankLentRefusalIsPage = "a refused search for a blank page gives page 0",
+    BlankLentJudgedFirst = "14 comes before 1 in the search for a blank page, for a length that no device has",
+    BlankLentDeviceIs14 = "a device that is not in the table gives 14 in the search for a blank page",
+    BlankLentDeviceTaken = "a blank page is looked for in the counts of a device that is not in the table",
+    BlankLentSmallerUnknown = "the search for a blank page gives 1 for devices 5 to 7",
     // A view of a page.
     ViewUnaskedUnchecked = "a view does not judge the slice that was not asked for",
     ViewThreeBeforeTwo = "3 comes before 2 in a view",

@@ -6,8 +6,9 @@
 //! first bits of a selection.
 //!
 //! What no trace asks for, the bench program, a view, a state or a load to judge, counts that are wrong or of a wrong
-//! length, has inputs of its own here.
+//! length, a blank page to look for, has inputs of its own here.
 
+mod blanks;
 mod commands;
 mod counts;
 mod disturb;
@@ -21,6 +22,7 @@ mod views;
 
 use crate::device::Device;
 use crate::trace::{append_record, Event};
+pub use blanks::{blank_chips, blanks, Blank, BlankChip};
 use commands::Maker;
 pub use counts::{counts, lendings, Counting, Left, Lending};
 pub use inputs::{bench_input, odd_bench_input, ODD_BENCH_INPUTS};

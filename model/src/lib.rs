@@ -1,6 +1,6 @@
 //! A plain model of seven M95 serial memories as seen from their pins.
 //!
-//! It is written from document 01, requests W-201 to W-204 of document 02 and the settled readings alone, so that it can
+//! It is written from document 01, requests W-201 to W-205 of document 02 and the settled readings alone, so that it can
 //! stand beside another implementation and be compared with it by running. Names are those of document 01; comments
 //! point to it by heading.
 
@@ -21,13 +21,14 @@ mod stored;
 mod trace;
 
 pub use bench::{bench, BENCH_CELLS, BENCH_DEVICES, BENCH_INPUT};
-pub use calls::{count_pages, event, load, prepare, run, stored, view, Ran, Region};
+pub use calls::{count_pages, event, first_blank, load, prepare, run, stored, view, Ran, Region};
 pub use contents::{play, play_wrongly, Contents, Played};
 pub use device::{device, Device, BP, DEVICES, SRWD};
 pub use fault::Fault;
-pub use files::play_files;
+pub use files::{play_files, Told};
 pub use mistakes::{
-    bench_wrongly, event_wrongly, is_sound_wrongly, load_wrongly, prepare_wrongly, view_wrongly,
+    bench_wrongly, event_wrongly, first_blank_wrongly, is_sound_wrongly, load_wrongly,
+    prepare_wrongly, view_wrongly,
 };
 pub use number::Number;
 pub use state::{is_sound, status_byte, Cycle, Instruction, Output, State, MOST_WHOLE_BYTES};

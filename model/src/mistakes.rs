@@ -5,6 +5,7 @@
 //! right model itself.
 
 mod bench;
+mod blank;
 mod codes;
 mod counts;
 mod edges;
@@ -24,6 +25,7 @@ use crate::rules::Chip;
 use crate::state::{status_byte, Cycle, Output, State};
 use crate::trace::Event;
 pub use bench::bench_wrongly;
+pub use blank::first_blank_wrongly;
 pub(crate) use counts::file_counts;
 pub use counts::{event_wrongly, prepare_wrongly};
 use smaller::Believed;

@@ -6,10 +6,10 @@ use std::process::Command;
 
 use common::{write_at, Board};
 use m95_model::generate::{
-    lendings, loads, states, trace, view_bytes, views, Lending, Profile, View,
+    blanks, lendings, loads, states, trace, view_bytes, views, Blank, Lending, Profile, View,
 };
 use m95_model::{
-    append_record, event_wrongly, is_sound, is_sound_wrongly, load, load_wrongly, play,
+    append_record, device, event_wrongly, is_sound, is_sound_wrongly, load, load_wrongly, play,
     play_wrongly, view, view_wrongly, Contents, Cycle, Device, Event, Fault, Instruction, Number,
     Output, Region, Vector, DEVICES,
 };
@@ -215,9 +215,9 @@ fn a_load_is_wrong_at_the_place_of_its_fault_and_nowhere_else() {
 }
 
 /// `play` asks for no view and is not the bench program, so a fault of theirs would never be found in it; nor would one
-/// of the states, loads, wrong counts and lengths that it never has.
+/// of the states, loads, wrong counts and lengths that it never has, also when it looks for a blank page.
 #[test]
-fn wrong_play_has_the_faults_of_traces_alone() {
+fn wrong_play_has_the_faults_of_traces_and_of_blank_pages() {
     let output = Command::new(env!("CARGO_BIN_EXE_wrong_play"))
         .arg("list")
         .output()
@@ -227,8 +227,10 @@ fn wrong_play_has_the_faults_of_traces_alone() {
     for fault in Fault::ALL {
         let name = format!("{fault:?}");
         let others = ["Bench", "View", "State", "Load", "CountWrong", "Counts"];
-        let of_traces = !others.iter().any(|other| name.starts_with(other));
-        assert_eq!(listed.contains(&name.as_str()), of_traces, "{name}");
+        let of_blanks = ["BlankWrong", "BlankLent"];
+        let mut unseen = others.iter().chain(&of_blanks);
+        let of_play = !unseen.any(|other| name.starts_with(other));
+        assert_eq!(listed.contains(&name.as_str()), of_play, "{name}");
     }
     let refused = Command::new(env!("CARGO_BIN_EXE_wrong_play"))
         .args(["ViewRegionsSwapped", "1", "chip", "trace", "answers"])
@@ -666,6 +668,137 @@ fn counts_without_a_fault_are_the_right_ones() {
                 let same = tried(&board, Fault::None, Event::Wait(0));
                 assert_eq!(same.2, left, "{event:?}");
             }
+        }
+    }
+}
+
+/// What there is to know of a question for a blank page.
+struct Asked<'a> {
+    /// None where the number is of no device.
+    row: Option<&'static Device>,
+    counts: &'a [u16],
+    is_right_length: bool,
+    first: Option<usize>,
+    /// The counts that a search passes on its way.
+    passed: &'a [u16],
+}
+
+impl Asked<'_> {
+    fn new(blank: &Blank) -> Asked<'_> {
+        let row = device(blank.device);
+        let first = blank.counts.iter().position(|&count| count == 0);
+        Asked {
+            row,
+            counts: &blank.counts,
+            is_right_length: row.is_some_and(|row| blank.counts.len() == row.pages()),
+            first,
+            passed: &blank.counts[..first.unwrap_or(blank.counts.len())],
+        }
+    }
+
+    /// Whether a fault of the search differs from the right one, which finds or does not find a page.
+    fn is_place_of_search(&self, fault: Fault, row: &Device) -> bool {
+        let passes = |sort: &dyn Fn(usize) -> bool| {
+            let mut passed = self.passed.iter();
+            passed.any(|&count| sort(count.into()))
+        };
+        let (page, last) = (row.page, row.pages() - 1);
+        let gives = |sort: &dyn Fn(usize) -> bool| self.first.is_some_and(sort);
+        match fault {
+            Fault::BlankIsLast => self.counts.iter().filter(|&&count| count == 0).count() > 1,
+            Fault::BlankBehindLastWritten => gives(&|at| self.counts[at..].iter().any(|&c| c != 0)),
+            Fault::BlankZeroNotLookedAt => gives(&|at| at == 0),
+            Fault::BlankLastNotLookedAt => gives(&|at| at == last),
+            Fault::BlankEndsAtWritten | Fault::BlankIsAddress => gives(&|at| at > 0),
+            Fault::BlankPast255NotLookedAt | Fault::BlankNumberInByte => gives(&|at| at > 255),
+            Fault::BlankFromOne => gives(&|_| true),
+            Fault::BlankByLowByte => passes(&|count| count % 256 == 0),
+            Fault::BlankTakesFull => passes(&|count| count == page),
+            Fault::BlankIsFull => gives(&|_| true) || passes(&|count| count == page),
+            Fault::BlankTakesOneCell => passes(&|count| count == 1),
+            Fault::BlankIsLeastWritten
+            | Fault::BlankNoneIsZero
+            | Fault::BlankNoneIsLast
+            | Fault::BlankNoneIsPages
+            | Fault::BlankNoneIsRefused => self.first.is_none(),
+            Fault::BlankWrongRefused | Fault::BlankWrongIsBlank => passes(&|count| count > page),
+            Fault::BlankWrongEndsSearch => gives(&|_| true) && passes(&|count| count > page),
+            Fault::BlankWrongIsNegative => passes(&|count| count > 0x7FFF),
+            Fault::BlankLentHasIdentification => row.has_identification(),
+            Fault::BlankLentSmallerUnknown => !row.has_identification(),
+            _ => false,
+        }
+    }
+
+    /// Whether a fault about the device or the length differs from the right one, which refuses.
+    fn is_place_of_refusal(&self, fault: Fault) -> bool {
+        let lent = self.counts.len();
+        let of_some_device = [8, 16, 32, 256, 512, 1024].contains(&lent);
+        let Some(row) = self.row else {
+            return match fault {
+                Fault::BlankLentJudgedFirst => !of_some_device,
+                Fault::BlankLentRefusalIsPage
+                | Fault::BlankLentDeviceIs14
+                | Fault::BlankLentDeviceTaken => true,
+                _ => false,
+            };
+        };
+        match fault {
+            Fault::BlankLentRefusalIsPage | Fault::BlankLentRefusalIsNone => true,
+            Fault::BlankLentLongerTaken | Fault::BlankLentLongerSearched => lent > row.pages(),
+            Fault::BlankLentShorterTaken => lent < row.pages(),
+            Fault::BlankLentEmptyTaken => lent == 0,
+            Fault::BlankLentOfOtherTaken => of_some_device,
+            Fault::BlankLentHasIdentification => {
+                row.has_identification() && lent == row.pages() + 1
+            }
+            Fault::BlankLentSmallerUnknown => !row.has_identification(),
+            _ => false,
+        }
+    }
+
+    fn is_place_of(&self, fault: Fault) -> bool {
+        match self.row {
+            Some(row) if self.is_right_length => self.is_place_of_search(fault, row),
+            _ => self.is_place_of_refusal(fault),
+        }
+    }
+}
+
+/// Whether a device has a place at all for the fault of a blank page: a page's number outgrows a byte on devices 3 and 4
+/// alone, and some faults are about an identification page that not all have.
+fn has_place_of_blank(fault: Fault, row: &Device) -> bool {
+    match fault {
+        Fault::BlankPast255NotLookedAt | Fault::BlankNumberInByte => row.pages() > 256,
+        Fault::BlankLentHasIdentification => row.has_identification(),
+        Fault::BlankLentSmallerUnknown => !row.has_identification(),
+        _ => fault.is_of_blank(),
+    }
+}
+
+#[test]
+fn a_blank_page_is_wrong_at_the_place_of_its_fault_and_nowhere_else() {
+    let all = Fault::ALL.iter().copied();
+    let (of_blanks, others): (Vec<Fault>, Vec<Fault>) = all.partition(|fault| fault.is_of_blank());
+    for row in &DEVICES {
+        let mut noticed = Vec::new();
+        for (index, blank) in blanks(row).iter().enumerate() {
+            let (asked, right) = (Asked::new(blank), blank.ask(Fault::None));
+            // Faults of anything else have no place here; that shows in a part of the questions too.
+            let more = match index % 16 {
+                0 => &others[..],
+                _ => &[],
+            };
+            for &fault in of_blanks.iter().chain(more) {
+                let differs = blank.ask(fault) != right;
+                let place = asked.is_place_of(fault);
+                assert_eq!(differs, place, "{fault:?} {} question {index}", row.name);
+                noticed.extend((differs && !noticed.contains(&fault)).then_some(fault));
+            }
+        }
+        for &fault in &of_blanks {
+            let expected = has_place_of_blank(fault, row);
+            assert_eq!(noticed.contains(&fault), expected, "{fault:?} {}", row.name);
         }
     }
 }

@@ -1,4 +1,5 @@
-//! The two programs of the model, run as processes: the bench program of document 01 and `play`.
+//! The two programs of the model, run as processes: the bench program of document 01 and `play`, with its question for a
+//! blank page (document 02, W-205).
 
 use std::fs;
 use std::io::Write;
@@ -130,6 +131,22 @@ impl Place {
             .expect("play starts")
     }
 
+    fn blank(&self, device: &str) -> Output {
+        play_with(&["blank", device, &self.path("chip").display().to_string()])
+    }
+
+    /// The names and bytes of all files.
+    fn files(&self) -> Vec<(String, Vec<u8>)> {
+        let entries = fs::read_dir(&self.0).expect("a directory");
+        let mut names: Vec<String> = entries
+            .map(|entry| entry.expect("an entry").file_name())
+            .map(|name| name.into_string().expect("text"))
+            .collect();
+        names.sort();
+        let files = names.into_iter();
+        files.map(|name| (name.clone(), self.get(&name))).collect()
+    }
+
     fn put_trace(&self, events: &[Event]) -> usize {
         let mut trace = Vec::new();
         for &event in events {
@@ -138,6 +155,13 @@ impl Place {
         self.put("trace", &trace);
         trace.len()
     }
+}
+
+fn play_with(words: &[&str]) -> Output {
+    Command::new(env!("CARGO_BIN_EXE_play"))
+        .args(words)
+        .output()
+        .expect("play starts")
 }
 
 fn line(output: &Output) -> &str {
@@ -336,11 +360,7 @@ fn bad_use_changes_no_file() {
     let chip = vec![0; long];
     place.put("chip", &chip);
     assert_refused(&place, &place.play("1"), &chip);
-    let output = Command::new(env!("CARGO_BIN_EXE_play"))
-        .args(["1", "only"])
-        .output()
-        .expect("play starts");
-    assert_eq!(output.status.code(), Some(2));
+    assert_eq!(play_with(&["1", "only"]).status.code(), Some(2));
 }
 
 fn assert_refused(place: &Place, output: &Output, chip: &[u8]) {
@@ -352,4 +372,162 @@ fn assert_refused(place: &Place, output: &Output, chip: &[u8]) {
     );
     assert_eq!(place.get("chip"), chip);
     assert_eq!(place.get("answers"), b"as it was");
+}
+
+/// What a question for a blank page prints, its status, and whether it complains.
+fn told(output: &Output) -> (&str, Option<i32>, bool) {
+    let text = std::str::from_utf8(&output.stdout).expect("text");
+    (text, output.status.code(), !output.stderr.is_empty())
+}
+
+const DEVICES: [(&str, usize, usize, usize); 7] = [
+    ("1", 512, 16, 16),
+    ("2", 16_384, 64, 64),
+    ("3", 131_072, 256, 256),
+    ("4", 262_144, 256, 256),
+    ("5", 128, 16, 0),
+    ("6", 256, 16, 0),
+    ("7", 16_384, 64, 0),
+];
+
+/// In both forms of a file, on every device: the first page, the next one, the last one, and none.
+#[test]
+fn play_tells_the_first_blank_page() {
+    let place = Place::new("blank");
+    for (device, cells, page, identification) in DEVICES {
+        for rest in [vec![], [vec![0xFF; identification], vec![0x0C, 0]].concat()] {
+            let last = cells / page - 1;
+            for (written, expected, status) in [
+                (0, "blank 0\n".to_string(), 0),
+                (1, "blank 1\n".to_string(), 0),
+                (page, "blank 1\n".to_string(), 0),
+                (cells - page, format!("blank {last}\n"), 0),
+                (cells - page + 1, "blank none\n".to_string(), 1),
+                (cells, "blank none\n".to_string(), 1),
+            ] {
+                let mut chip = vec![0xFF; cells];
+                chip[..written].fill(0x00);
+                chip.extend(&rest);
+                place.put("chip", &chip);
+                let before = place.files();
+                let output = place.blank(device);
+                assert_eq!(told(&output), (expected.as_str(), Some(status), false));
+                assert_eq!(place.files(), before);
+            }
+        }
+    }
+}
+
+/// One written cell is enough, whichever of the page it is and whatever it holds.
+#[test]
+fn play_counts_every_cell_of_a_page() {
+    let place = Place::new("blank_cells");
+    let mut chip = vec![0xFF; 512];
+    for page in 0..17 {
+        chip[16 * page + page % 16] = [0x00, 0xFE, 0x7F][page % 3];
+    }
+    place.put("chip", &chip);
+    assert_eq!(told(&place.blank("1")), ("blank 17\n", Some(0), false));
+}
+
+/// A run and a question after it go by the same file.
+#[test]
+fn play_tells_the_blank_page_that_a_run_leaves() {
+    let place = Place::new("blank_after_run");
+    let write = [selection(&[0x06]), selection(&[0x02, 0x0F, 0xA5])].concat();
+    place.put_trace(&[write.clone(), vec![Event::Wait(5000)]].concat());
+    assert!(line(&place.play("1")).starts_with("end 0 00 "));
+    assert_eq!(told(&place.blank("1")), ("blank 1\n", Some(0), false));
+    // A cycle that is cut has written nothing.
+    fs::remove_file(place.path("chip")).expect("the chip");
+    place.put_trace(&write);
+    assert!(line(&place.play("1")).starts_with("end 0 03 "));
+    assert_eq!(told(&place.blank("1")), ("blank 0\n", Some(0), false));
+}
+
+/// A question judges a file as a run does, in the same words, and prints nothing then.
+#[test]
+fn play_complains_of_a_chip_as_in_a_run() {
+    let place = Place::new("blank_bad_chip");
+    place.put("answers", b"as it was");
+    place.put_trace(&[Event::Power]);
+    let long = 512 + 16 + 2;
+    let mut wrong_status = vec![0xFF; long];
+    wrong_status[long - 2..].copy_from_slice(&[0x80, 0]);
+    let mut wrong_lock = vec![0xFF; long];
+    wrong_lock[long - 2..].copy_from_slice(&[0, 2]);
+    let locked = [vec![0xFF; 128], vec![0, 1]].concat();
+    for (device, chip) in [
+        ("0", vec![0xFF; 512]),
+        ("8", vec![0xFF; 512]),
+        ("01", vec![0xFF; 512]),
+        ("", vec![0xFF; 512]),
+        ("blank", vec![0xFF; 512]),
+        ("1", vec![]),
+        ("1", vec![0xFF; 511]),
+        ("1", vec![0xFF; 513]),
+        ("1", vec![0xFF; long + 1]),
+        ("2", vec![0xFF; 512]),
+        ("1", wrong_status),
+        ("1", wrong_lock),
+        ("5", locked),
+    ] {
+        place.put("chip", &chip);
+        let before = place.files();
+        let output = place.blank(device);
+        assert_refused(&place, &output, &chip);
+        assert_eq!(output.stderr, place.play(device).stderr, "device {device}");
+        assert_eq!(place.files(), before);
+    }
+}
+
+/// In a run this would be a prepared chip, whose page 0 is blank; here it may be a name that was mistyped.
+#[test]
+fn play_tells_no_blank_page_of_a_missing_chip() {
+    let place = Place::new("blank_missing");
+    for (device, ..) in DEVICES {
+        let output = place.blank(device);
+        assert_eq!(told(&output), ("", Some(2), true));
+        let message = String::from_utf8_lossy(&output.stderr);
+        assert!(
+            message.starts_with("play: cannot read the chip "),
+            "{message}"
+        );
+        assert_eq!(message.lines().count(), 1);
+        assert!(place.files().is_empty(), "no file is made");
+    }
+    fs::create_dir(place.path("chip")).expect("a directory");
+    assert_eq!(told(&place.blank("1")), ("", Some(2), true));
+}
+
+#[test]
+fn play_takes_the_word_blank_with_two_others_alone() {
+    let place = Place::new("blank_words");
+    place.put("chip", &[0xFF; 512]);
+    place.put_trace(&[]);
+    let before = place.files();
+    let [chip, trace, answers] =
+        ["chip", "trace", "answers"].map(|name| place.path(name).display().to_string());
+    for words in [
+        &["blank"][..],
+        &["blank", "1"],
+        &["blank", &chip],
+        &["Blank", "1", &chip],
+        &["blank ", "1", &chip],
+        &["--blank", "1", &chip],
+        &["1", "blank", &chip],
+        &["1", &chip, "blank"],
+        &["1", &chip],
+        &["1", &chip, &trace],
+        &["blank", "1", &chip, &answers],
+        &["blank", &chip, &trace, &answers],
+        &["blank", "1", &chip, &trace, &answers],
+        &[],
+    ] {
+        let output = play_with(words);
+        assert_eq!(told(&output), ("", Some(2), true), "{words:?}");
+        assert_eq!(place.files(), before, "{words:?}");
+    }
+    let output = play_with(&["blank", "1", &chip]);
+    assert_eq!(told(&output), ("blank 0\n", Some(0), false));
 }

@@ -1,4 +1,4 @@
-//! The example of the README in Rust: prepares an M95040, selects it, and sends WREN as a trace.
+//! The example of the README in Rust: prepares an M95040, selects it, sends WREN as a trace, and asks for a blank page.
 
 use proved::{kind, pin, Lent, STATE_BYTES};
 
@@ -29,4 +29,7 @@ fn main() {
         "numbers {number}, records {}, bytes {}, status {status:02X}",
         ran.done, ran.taken
     );
+    if let Some(page) = proved::first_blank(DEVICE, lent.counts).unwrap() {
+        println!("the first blank page is {page}");
+    }
 }

@@ -105,6 +105,13 @@ mod c {
             counts: *mut u16,
             counts_length: usize,
         ) -> usize;
+        pub fn m95_first_blank(
+            device: usize,
+            counts: *const u16,
+            counts_length: usize,
+            found: *mut usize,
+            page: *mut usize,
+        ) -> usize;
         pub fn m95_load(
             device: usize,
             state: *mut u8,
@@ -266,6 +273,20 @@ pub fn count_pages(device: usize, cells: &[u8], counts: &mut [u16]) -> usize {
             counts.as_mut_ptr(),
             counts.len(),
         )
+    }
+}
+
+/// The lowest page that has a count of 0, or `None` where no page has; refused with 1 or 14. A page is given by its number: its cells start at
+/// that times `page`. No cell is read, and wrong counts are taken at their word: after cells were filled otherwise than by `prepare` and
+/// events, `count_pages` comes first.
+pub fn first_blank(device: usize, counts: &[u16]) -> Result<Option<usize>, usize> {
+    let (mut found, mut page) = (0, 0);
+    // SAFETY: the pointer is a slice's, with the slice's length; found and page are local numbers.
+    let number =
+        unsafe { c::m95_first_blank(device, counts.as_ptr(), counts.len(), &mut found, &mut page) };
+    match number {
+        0 => Ok((found == 1).then_some(page)),
+        number => Err(number),
     }
 }
 

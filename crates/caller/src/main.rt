@@ -1,6 +1,7 @@
 // Calls each public call of the library on good and bad input, and holds its answers. Every `expect` is proved from the contracts
 // alone, so a caller who knows nothing else can use them.
 
+use rules::Blank;
 use rules::Cycle;
 use rules::Event;
 use rules::Kind;
@@ -58,6 +59,32 @@ fn counts_pages() {
     check::expect(counts[7] == 16);
     let bad = m95::count_pages(8, &cells, &mut counts);
     check::expect(bad == 1);
+}
+
+// The first blank page of an M95010 whose first two pages are not blank is its third; counts for too few pages are refused with 14.
+fn finds_room() {
+    let counts = [16u16, 1, 0, 16, 0, 0, 0, 0];
+    let third = m95::first_blank(5, &counts);
+    check::expect(third.number == 0);
+    let blank = third.blank;
+    match blank {
+        Blank::Page(page) => check::expect(page == 2),
+        Blank::None => check::expect(false),
+    }
+    let bad = m95::first_blank(5, &counts[..7]);
+    check::expect(bad.number == 14);
+}
+
+// Where every page has a cell other than FFh there is none.
+fn finds_no_room() {
+    let counts = [1u16; 8];
+    let full = m95::first_blank(5, &counts);
+    check::expect(full.number == 0);
+    let blank = full.blank;
+    match blank {
+        Blank::Page(_) => check::expect(false),
+        Blank::None => {}
+    }
 }
 
 // A view of the cells shows the page that holds address 40, and an address past them is refused with 13.
@@ -238,6 +265,8 @@ fn main() {
     refuses_a_page();
     refuses_counts();
     counts_pages();
+    finds_room();
+    finds_no_room();
     loads();
     judges();
     tells_status();

@@ -1,4 +1,4 @@
--- What the lent buffers are refused with, and the outcome of preparing, of counting and of loading: one law for each way through the rules.
+-- What the lent buffers are refused with, and the outcome of preparing, of counting, of the search for a blank page and of loading: one law for each way through the rules.
 use Prim.Native.Nat.{ℕ, _+_, _-_, _*_, _≤_, _<_}
 use mathlib.Core.Path.{_≡_, sym, ap, _∙_, subst}
 use mathlib.Core.Bool.{Bool, true, false, not}
@@ -7,6 +7,7 @@ use native.Mathlib.Omega.{arith}
 use lib.ListN.{length, replicate}
 use lib.Dec.{eqb}
 use borrow.Author.Tests.{eqb-true, eq-eqb, ne-eqb, not-false, le-leb, lt-ltb, le-ltb}
+use Rattle.rules.specs.declared.Blank.{Blank}
 use Rattle.rules.specs.declared.Row.{Row}
 use Rattle.rules.specs.declared.State.{State}
 use Rattle.rules.specs.declared.Stored.{Stored}
@@ -14,7 +15,7 @@ use Rattle.rules.specs.World.{if_then_else_, number, worldOf, withStored}
 use Rattle.rules.specs.Device.{table, isDevice, rowOf, hasIdentification, pageCount, code, preparedState, prepared}
 use Rattle.rules.specs.Judge.{storable}
 use Rattle.rules.specs.Sound.{Lent}
-use Rattle.rules.specs.Call.{memoryRefusal, lentRefusal, preparedAs, prepareOutcome, recountedTo, countedAs, countOutcome, poweredWith, loadedAs, loadOutcome}
+use Rattle.rules.specs.Call.{memoryRefusal, lentRefusal, preparedAs, prepareOutcome, recountedTo, countedAs, countOutcome, firstBlank, foundAs, blankOutcome, poweredWith, loadedAs, loadOutcome}
 use Rattle.rules.proofs.Choice.{if-elim}
 use Rattle.rules.proofs.Program.{lent-facts}
 
@@ -123,6 +124,46 @@ module _ (device : ℕ) (cells counts : List ℕ) (n : ℕ) (en : n ≡ countOut
       (λ c. if-elim P (not rightCounts) (λ _ e. absurd (omega arith))
       (λ k _. (eqb-true _ _ (not-false rightCells c), eqb-true _ _ (not-false rightCounts k))))) in
       subst (λ (x : Row). (length cells ≡ x .cells) × (length counts ≡ pageCount x)) (sym er) (lengths (sym en ∙ z))
+
+-- The first blank page.
+module _ (device : ℕ) (counts : List ℕ) (d : Bool) (ed : d ≡ isDevice device) where
+  pub blank-device : not d ≡ true → 1 ≡ blankOutcome device counts .number
+  unfolding blankOutcome
+  blank-device h = rw (← ed, h)
+
+  module _ (h : not d ≡ false) (row : Row) (er : row ≡ rowOf device) (k : ℕ) (ek : k ≡ pageCount row) where
+    pub blank-counts : (length counts ≡ k → ⊥) → 14 ≡ blankOutcome device counts .number
+    unfolding blankOutcome
+    blank-counts b = rw (← ed, h, ← er, ← ek, ne-eqb (length counts) k b)
+
+    pub blank-whole : length counts ≡ k → 0 ≡ blankOutcome device counts .number
+    unfolding blankOutcome
+    blank-whole b = rw (← ed, h, ← er, ← ek, eq-eqb (length counts) k b)
+
+module _ (device : ℕ) (counts : List ℕ) (n : ℕ) (en : n ≡ blankOutcome device counts .number) where
+  pages : ℕ
+  pages = pageCount (rowOf device)
+
+  blanks-so : (m : ℕ) → m ≡ blankOutcome device counts .number → foundAs m (if eqb m 0 then firstBlank pages counts else Blank.None) ≡ blankOutcome device counts
+  unfolding blankOutcome pages
+  blanks-so m e = ap (λ (k : ℕ). foundAs k (if eqb k 0 then firstBlank pages counts else Blank.None)) e
+
+  pub blank-refused : (n ≡ 0 → ⊥) → foundAs n Blank.None ≡ blankOutcome device counts
+  blank-refused z = let is = blanks-so n en in rw (ne-eqb n 0 z) at is
+
+  -- What is not refused has a count for each page.
+  blank-fits : n ≡ 0 → length counts ≡ pages
+  unfolding blankOutcome pages
+  blank-fits z =
+      let right = eqb (length counts) pages in
+      let P : ℕ → Type 0 = λ (m : ℕ). m ≡ 0 → length counts ≡ pages in
+      let fits : P (blankOutcome device counts .number) =
+      if-elim P (not (isDevice device)) (λ _ e. absurd (omega arith))
+      (λ _. if-elim P (not right) (λ _ e. absurd (omega arith)) (λ k _. eqb-true _ _ (not-false right k))) in
+      fits (sym en ∙ z)
+
+  pub blank-done : (b : Blank) → n ≡ 0 → b ≡ firstBlank (length counts) counts → foundAs 0 b ≡ blankOutcome device counts
+  blank-done b z eb = ap (foundAs 0) (eb ∙ ap (λ (k : ℕ). firstBlank k counts) (blank-fits z)) ∙ blanks-so 0 (sym z ∙ en)
 
 -- What is handed in to be loaded.
 module _ (device : ℕ) (x : Stored) (row : Row) (d : Bool) (er : row ≡ rowOf device) (ed : d ≡ isDevice device) (b : ℕ) (eb : b ≡ storable row (x .status)) where

@@ -10,7 +10,7 @@ use Rattle.rules.specs.World.{World}
 use Rattle.rules.specs.Device.{preparedState}
 use Rattle.rules.specs.Send.{statusByte}
 use Rattle.rules.specs.Trace.{Progress}
-use Rattle.rules.specs.Call.{worldRefusal, Prepared, prepareOutcome, Counted, countOutcome, storedIn, Loaded, loadOutcome, Replied, eventOutcome, runOutcome, Shown, viewOutcome}
+use Rattle.rules.specs.Call.{worldRefusal, Prepared, prepareOutcome, Counted, countOutcome, Found, blankOutcome, storedIn, Loaded, loadOutcome, Replied, eventOutcome, runOutcome, Shown, viewOutcome}
 
 -- What a contract of the form "the outcome is this function of the input" allows is one outcome.
 pub unique : {A : Type 0} {x y z : A} → x ≡ z → y ≡ z → x ≡ y
@@ -22,6 +22,9 @@ unique-prepare device cells identification latch counts = unique
 
 pub unique-count-pages : {x y : Counted} (device : ℕ) (cells counts : List ℕ) → x ≡ countOutcome device cells counts → y ≡ countOutcome device cells counts → x ≡ y
 unique-count-pages device cells counts = unique
+
+pub unique-first-blank : {x y : Found} (device : ℕ) (counts : List ℕ) → x ≡ blankOutcome device counts → y ≡ blankOutcome device counts → x ≡ y
+unique-first-blank device counts = unique
 
 pub unique-load : {x y : Loaded} (device : ℕ) (stored : Stored) → x ≡ loadOutcome device stored → y ≡ loadOutcome device stored → x ≡ y
 unique-load device stored = unique

@@ -1,4 +1,4 @@
-// The library: prepare, count, load, event, run, what is stored, and a view of a page. Each call takes any input whatever, and its contract says its
+// The library: prepare, count, the first blank page, load, event, run, what is stored, and a view of a page. Each call takes any input whatever, and its contract says its
 // whole answer and the whole contents of every lent buffer as one function of the input: the outcomes of rules/specs/Call.antt.
 
 ghost use mathlib.Core.Path.{_≡_};
@@ -11,8 +11,11 @@ use rules::Event;
 use rules::State;
 use traces::records::Ran;
 
-// The calls that run nothing: preparing, counting and what is stored, whose contracts stand in `lent`, and the view of a page, in `pages`.
+// The calls that run nothing: preparing, counting, the first blank page and what is stored, whose contracts stand in `lent`, and the view of a
+// page, in `pages`.
+pub use lent::counting::Found;
 pub use lent::counting::count_pages;
+pub use lent::counting::first_blank;
 pub use lent::loading::load;
 pub use lent::loading::stored;
 pub use lent::preparing::Prepared;

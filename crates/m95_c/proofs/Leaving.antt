@@ -8,6 +8,7 @@ use lib.Dec.{eqb, leb, ltb}
 use lib.ListN.{length}
 use borrow.Author.Tests.{ltb-false, eq-eqb, ne-eqb, le-leb, lt-leb, not-true, not-false}
 use Rattle.rules.specs.declared.Event.{Event}
+use Rattle.rules.specs.declared.Blank.{Blank}
 use Rattle.rules.specs.declared.Region.{Region}
 use Rattle.rules.specs.declared.Row.{Row}
 use Rattle.rules.specs.declared.State.{State}
@@ -18,12 +19,13 @@ use Rattle.rules.specs.Send.{statusByte}
 use Rattle.rules.specs.Trace.{lengthOf, pinEvent, progressOf}
 use Rattle.rules.specs.Call as call
 use Rattle.rules.specs.Call.{memoryRefusal, worldRefusal, prepareOutcome, storedAs, storedIn, loadOutcome, eventOutcome, runOutcome, shownAs, viewOutcome}
+use Rattle.rules.specs.Call.{foundNumber, pageNumber, Found, foundAs, blankOutcome}
 use Rattle.rules.proofs.Choice.{if-elim}
 use Rattle.m95.proofs.Calling.{fine}
 use Rattle.m95_c.proofs.Packing.{state-length}
 use Rattle.m95_c.specs.StateBytes.{isState, stateOf, noState, bytesOf}
 use Rattle.m95_c.specs.Left.{deviceOf, sizesAs, sizesOf, Buffers, buffersOf, worldWith, preparedAs, prepareLeft, byteFor, loadedAs, loadLeft, eventRefusal}
-use Rattle.m95_c.specs.Left.{eventOf, repliedAs, eventLeft, ranAs, runLeft, toldAs, statusLeft, keptAs, storedLeft, regionOf, partStart, placedAs, viewLeft}
+use Rattle.m95_c.specs.Left.{eventOf, repliedAs, eventLeft, ranAs, runLeft, searchedAs, blankLeft, toldAs, statusLeft, keptAs, storedLeft, regionOf, partStart, placedAs, viewLeft}
 
 -- A number that fits a byte is kept, as `deviceOf` and `byteFor` have it; another gives way to what stands for none.
 pub byte-kept : (none n : ℕ) → n ≤ 255 → n ≡ (if leb n 255 then n else none)
@@ -171,6 +173,14 @@ module _ (b : List ℕ) {t : Bool} (et : t ≡ isState b) where
   pub stored-told : {s : State} {x : Stored} → not t ≡ false → s ≡ stateOf b → x ≡ storedIn s → keptAs 0 (x .status) (x .lock) ≡ storedLeft b
   unfolding storedLeft stateOf
   stored-told h es ex = rw (← et, not-false t h, ex, es, ← et, not-false t h)
+
+-- The first blank page, as the library answers it.
+pub blank-left : (n : ℕ) {d : ℕ} (counts : List ℕ) {number : ℕ} {answered : Blank} (b : Blank) → d ≡ deviceOf n → foundAs number answered ≡ blankOutcome d counts → answered ≡ b
+    → searchedAs number (foundNumber b) (pageNumber b) ≡ blankLeft n counts
+unfolding blankLeft
+blank-left n counts {number} b ed eo eb =
+    ap (λ (a : Blank). searchedAs number (foundNumber a) (pageNumber a)) (sym eb)
+    ∙ ap (λ (o : Found). searchedAs (o .number) (foundNumber (o .blank)) (pageNumber (o .blank))) (eo ∙ ap (λ (k : ℕ). blankOutcome k counts) ed)
 
 -- A view.
 module _ (n region : ℕ) (cells identification : List ℕ) (address : ℕ) {d : ℕ} (ed : d ≡ deviceOf n) {k : ℕ} (ek : k ≡ memoryRefusal d cells identification) where

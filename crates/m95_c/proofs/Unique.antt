@@ -6,7 +6,7 @@ use Rattle.rules.specs.Call.{Counted, countOutcome}
 use Rattle.m95.proofs.Unique.{unique}
 use Rattle.m95_c.specs.StateBytes.{version}
 use Rattle.m95_c.specs.Left.{deviceOf, sizesOf, Buffers, buffersRefusal, Prepared, prepareLeft, Loaded, loadLeft, Kept, storedLeft}
-use Rattle.m95_c.specs.Left.{Replied, eventLeft, Ran, runLeft, Told, statusLeft, Placed, viewLeft}
+use Rattle.m95_c.specs.Left.{Replied, eventLeft, Ran, runLeft, Searched, blankLeft, Told, statusLeft, Placed, viewLeft}
 
 pub unique-cells : {x y : ℕ} (device : ℕ) → x ≡ sizesOf device .cells → y ≡ sizesOf device .cells → x ≡ y
 unique-cells device e f = unique e f
@@ -22,6 +22,9 @@ unique-pages device e f = unique e f
 
 pub unique-count-pages : {x y : Counted} (device : ℕ) (cells counts : List ℕ) → x ≡ countOutcome (deviceOf device) cells counts → y ≡ countOutcome (deviceOf device) cells counts → x ≡ y
 unique-count-pages device cells counts = unique
+
+pub unique-first-blank : {x y : Searched} (device : ℕ) (counts : List ℕ) → x ≡ blankLeft device counts → y ≡ blankLeft device counts → x ≡ y
+unique-first-blank device counts = unique
 
 pub unique-refusal : {x y : ℕ} (device : ℕ) (b : Buffers) → x ≡ buffersRefusal device b → y ≡ buffersRefusal device b → x ≡ y
 unique-refusal device b = unique

@@ -8,7 +8,7 @@ use Rattle.rules.specs.declared.Stored.{Stored}
 use Rattle.rules.specs.Device.{isDevice, rowOf, pageCount}
 use Rattle.rules.specs.Send.{statusByte}
 use Rattle.rules.specs.Trace.{lengthOf, pinEvent}
-use Rattle.rules.specs.Call.{memoryRefusal, worldRefusal, prepareOutcome, storedAs, storedIn, loadOutcome, eventOutcome, runOutcome, viewOutcome}
+use Rattle.rules.specs.Call.{memoryRefusal, worldRefusal, prepareOutcome, foundNumber, pageNumber, blankOutcome, storedAs, storedIn, loadOutcome, eventOutcome, runOutcome, viewOutcome}
 use Rattle.m95_c.specs.declared.showing.Sizes.{Sizes}
 use Rattle.m95_c.specs.StateBytes.{stateLength, isState, stateOf, stateAt, noState, bytesOf}
 
@@ -131,6 +131,20 @@ runLeft device b trace answers limit =
     let p = runOutcome (deviceOf device) (worldIn b) trace answers limit in
     if eqb n 0 then ranAs (p .number) (p .taken) (p .done) (p .answers) (buffersWith (p .world))
     else ranAs n 0 0 answers b
+
+-- The first blank page: the number, whether there is such a page, and which; both 0 where there is none, refused or not.
+pub record Searched : Type 0 where
+  pub number : ℕ
+  pub found : ℕ
+  pub page : ℕ
+
+abbrev pub searchedAs : ℕ → ℕ → ℕ → Searched
+searchedAs number found page = record { number = number; found = found; page = page }
+
+unfoldable pub blankLeft : ℕ → List ℕ → Searched
+blankLeft device counts =
+    let o = blankOutcome (deviceOf device) counts in
+    searchedAs (o .number) (foundNumber (o .blank)) (pageNumber (o .blank))
 
 -- The status of a state, sound or not: 5 and 0 for bytes that are none.
 pub record Told : Type 0 where

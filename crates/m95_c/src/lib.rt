@@ -1,6 +1,6 @@
 // The library's calls for C, as include/m95.h declares them: numbers, buffers as pointer and length, and the state as bytes. Each takes
 // any numbers and any buffers, and its contract says its whole answer and all that it leaves in them (specs/Left.antt). Those that show a
-// size, the status, what is stored or a page are in `showing`.
+// size, the first blank page, the status, what is stored or a page are in `showing`.
 
 ghost use mathlib.Core.Path.{_≡_};
 ghost use Rattle.rules.specs.Call.{countedAs, countOutcome};

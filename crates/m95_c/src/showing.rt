@@ -1,13 +1,14 @@
-// The calls that show a size, the status, what is stored or a page. A size is given back; the rest goes to the numbers that are lent for it.
+// The calls that show a size, the first blank page, the status, what is stored or a page. A size is given back; the rest goes to the numbers that are lent for it.
 
 ghost use mathlib.Core.Path.{_≡_};
 ghost use Rattle.rules.specs.Device.{rowOf};
-ghost use Rattle.m95_c.specs.Left.{sizesOf, toldAs, statusLeft, keptAs, storedLeft, partStart, placedAs, viewLeft};
+ghost use Rattle.m95_c.specs.Left.{sizesOf, searchedAs, blankLeft, toldAs, statusLeft, keptAs, storedLeft, partStart, placedAs, viewLeft};
 use crate::numbers::device_of;
 use crate::numbers::region_of;
 use crate::reading::is_state;
 use crate::reading::state_of;
 use lent::judging::memory_refused;
+use rules::Blank;
 use rules::Region;
 
 // How many cells a device has, how many bytes a page of it, how many its identification page, which may have none, and how many pages its cells make.
@@ -70,6 +71,31 @@ pub extern "C" fn m95_pages(device: usize) -> usize
 {
     let sizes = sizes_of(device);
     sizes.pages
+}
+
+// The first blank page, by the counts alone: whether there is one, 1 or 0, and which.
+#[no_mangle]
+pub extern "C" fn m95_first_blank(
+    device: usize,
+    counts: &[u16],
+    found: &mut usize,
+    page: &mut usize,
+) -> usize
+    ensures { λ r. ⌜ searchedAs r (now (found .exit)) (now (page .exit)) ≡ blankLeft device (now (counts .entry)) ⌝ }
+{
+    let searched = m95::first_blank(device_of(device), counts);
+    let blank = searched.blank;
+    match blank {
+        Blank::Page(p) => {
+            *found = 1;
+            *page = p;
+        }
+        Blank::None => {
+            *found = 0;
+            *page = 0;
+        }
+    }
+    searched.number
 }
 
 // The byte that RDSR would send in a state, sound or not.

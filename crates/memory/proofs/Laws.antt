@@ -8,13 +8,15 @@ use native.Mathlib.Numerals.{add-one}
 use native.Mathlib.Omega.{arith}
 use lib.ListN.{getD, set, take, drop, length, replicate, length-take, length-drop, length-replicate, drop-of-length-le}
 use lib.Seq.{drop-cons, take-all}
+use lib.Dec.{eqb}
 use borrow.Author.Tests.{ne-eqb, le-leb, lt-leb}
 use Rattle.rules.specs.declared.Row.{Row}
+use Rattle.rules.specs.declared.Blank.{Blank}
 use Rattle.rules.specs.Device.{code}
 use Rattle.rules.specs.Receive.{cleared}
 use Rattle.rules.specs.Sound.{areMarks}
 use Rattle.rules.specs.Cycle.{written, filled, recounted}
-use Rattle.rules.specs.Call.{recountedTo}
+use Rattle.rules.specs.Call.{recountedTo, lowest, firstBlank}
 
 module _ (page : ℕ) (latch : List ℕ) (start : ℕ) (bytes : List ℕ) where
   pub written-set : (n : ℕ) → getD latch (page + n) 0 ≡ 1 → written (n + 1) page latch start bytes ≡ set (written n page latch start bytes) (start + n) (getD latch n 0)
@@ -39,6 +41,33 @@ module _ (cells : List ℕ) (a n : ℕ) where
 pub recounted-next : (n : ℕ) (row : Row) (cells counts : List ℕ) → recountedTo (n + 1) row cells counts ≡ recounted row (n * row .page) cells (recountedTo n row cells counts)
 unfolding recountedTo
 recounted-next n row cells counts = rw (add-one n)
+
+-- A search for the first count of 0, from page p on: behind the last page there is none; else it is this page, or a later one.
+module _ (counts : List ℕ) where
+  pub blankFrom : ℕ → Blank
+  blankFrom p = lowest (λ (q : ℕ). eqb (getD counts q 0) 0) (length counts - p) p
+
+  pub blank-start : blankFrom 0 ≡ firstBlank (length counts) counts
+  unfolding blankFrom
+  blank-start = rw (sub-zero (length counts))
+
+  pub blank-end : (p : ℕ) → p ≡ length counts → blankFrom p ≡ Blank.None
+  unfolding blankFrom lowest
+  blank-end p e =
+      let none : length counts - p ≡ 0 = omega arith in
+      rw none
+
+  module _ (p : ℕ) (within : p < length counts) where
+    left : length counts - p ≡ suc (length counts - (p + 1))
+    left = omega arith
+
+    pub blank-here : getD counts p 0 ≡ 0 → blankFrom p ≡ Blank.Page p
+    unfolding blankFrom lowest
+    blank-here z = rw (left, z)
+
+    pub blank-later : (getD counts p 0 ≡ 0 → ⊥) → blankFrom p ≡ blankFrom (p + 1)
+    unfolding blankFrom lowest
+    blank-later f = rw (left, ne-eqb _ _ f, add-one p)
 
 module _ (marks : List ℕ) (n : ℕ) (h : n < length marks) where
   pub mark-good : getD marks n 0 ≤ 1 → areMarks (drop n marks) ≡ areMarks (drop (n + 1) marks)

@@ -1,11 +1,12 @@
-// How full each page is: a page's cells counted, its count held to them, and counts taken afresh.
+// How full each page is: a page's cells counted, its count held to them, counts taken afresh, and the first page whose count is 0.
 
 ghost use mathlib.Core.Path.{_≡_};
 ghost use Prim.Native.Nat.{_+_, _%_, _≤_, _<_};
 ghost use lib.ListN.{length, replicate};
 ghost use Rattle.rules.specs.Device.{Widths, pageCount};
 ghost use Rattle.rules.specs.Cycle.{filled, isMiscounted, recounted};
-ghost use Rattle.rules.specs.Call.{recountedTo};
+ghost use Rattle.rules.specs.Call.{recountedTo, firstBlank};
+use rules::Blank;
 use rules::Row;
 
 // Every count is 0.
@@ -68,5 +69,22 @@ pub fn recount_all(row: Row, cells: &[u8], counts: &mut [u16])
 {
     for page in 0..counts.len() {
         recount(row, page * row.page, cells, counts);
+    }
+}
+
+// The lowest page whose count is 0, or none: the search stops there.
+pub fn first_blank(counts: &[u16]) -> Blank
+    ensures { λ r. ⌜ r ≡ firstBlank (length (now (counts .entry))) (now (counts .entry)) ⌝ }
+{
+    let pages = counts.len();
+    let mut page: usize = 0;
+    loop {
+        if page == pages {
+            break Blank::None;
+        }
+        if counts[page] == 0 {
+            break Blank::Page(page);
+        }
+        page = page + 1;
     }
 }

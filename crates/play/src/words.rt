@@ -22,8 +22,8 @@ pub fn device_named(word: &[u8]) -> u8
     0
 }
 
-// Whether two names are the same.
-fn is_same(a: &[u8], b: &[u8]) -> bool {
+// Whether two words are the same.
+pub fn is_same(a: &[u8], b: &[u8]) -> bool {
     if a.len() != b.len() {
         return false;
     }

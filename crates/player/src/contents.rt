@@ -85,6 +85,19 @@ pub fn load(row: Row, path: &[u8], cells: &mut [u8], identification: &mut [u8]) 
     said
 }
 
+// The contents of the file at a path, which has to be there.
+pub fn load_existing(row: Row, path: &[u8], cells: &mut [u8], identification: &mut [u8]) -> Said
+    requires { ⌜ (Widths row) × (length (now cells) ≡ row .cells) × (length (now identification) ≡ row .identification) ⌝ }
+{
+    let fd = os::open_read(path);
+    if fd < 0 {
+        return silent(Fault::Unread);
+    }
+    let said = read_said(row, fd, cells, identification);
+    libc::close(fd);
+    said
+}
+
 // Writes the contents whole, and answers whether all of it is in the file.
 pub fn store(fd: i32, cells: &[u8], identification: &[u8], stored: Stored) -> bool {
     let tail = [stored.status, stored.lock];

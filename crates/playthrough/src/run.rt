@@ -10,9 +10,9 @@ ghost use Rattle.rules.specs.Device.{isDevice};
 ghost use Rattle.rules.specs.Call.{lentRefusal};
 ghost use Rattle.player.specs.Playing.{Playable};
 use crate::chip::replace;
-use crate::say::complain;
 use crate::say::fail;
 use crate::say::is_faulty;
+use crate::say::is_unstorable;
 use crate::say::tell;
 use crate::say::tell_kind_16;
 use player::contents;
@@ -177,10 +177,7 @@ fn play_lent(
         return;
     }
     let loaded = m95::load(device, said.stored);
-    if loaded.number != 0 {
-        complain(
-            b"play: CHIP's last two bytes: its status byte has bits that the device has not, or its lock byte is neither 0 nor, where the device has an identification page, 1\n",
-        );
+    if is_unstorable(loaded.number) {
         return;
     }
     m95::count_pages(device, cells, counts);

@@ -1,6 +1,8 @@
 // What play says: one line on standard error for what is wrong, and the last line on standard output.
 
 ghost use Prim.Native.Nat.{_<_};
+ghost use mathlib.Core.Bool.{false};
+ghost use mathlib.Core.Path.{_≡_};
 ghost use Rattle.rules.specs.Send.{statusByte};
 use libc::STDERR_FILENO;
 use libc::STDOUT_FILENO;
@@ -37,6 +39,19 @@ pub fn is_faulty(fault: Fault, path: &[u8]) -> bool {
             complain(b"128 or 130 for 5, 256 or 258 for 6, 16384 or 16386 for 7\n");
         }
     }
+    true
+}
+
+// A line for what a chip's file has stored and its device cannot, and whether there was one.
+pub fn is_unstorable(number: usize) -> bool
+    ensures { λ r. ⌜ (r ≡ false → number ≡ 0) ⌝ }
+{
+    if number == 0 {
+        return false;
+    }
+    complain(
+        b"play: CHIP's last two bytes: its status byte has bits that the device has not, or its lock byte is neither 0 nor, where the device has an identification page, 1\n",
+    );
     true
 }
 

@@ -300,7 +300,7 @@ prepared-agrees device cells identification latch counts z =
     if-elim (Agreeing (rowOf device)) (eqb (lentRefusal device cells identification latch counts) 0) (λ _. blank-agrees (of-device device)) (λ n. clash (sym (eq-eqb _ 0 z) ∙ n))
 
 -- Pages counted one after the other.
-recounted-long : (n : ℕ) (row : Row) (cells counts : List ℕ) → length (recountedTo n row cells counts) ≡ length counts
+pub recounted-long : (n : ℕ) (row : Row) (cells counts : List ℕ) → length (recountedTo n row cells counts) ≡ length counts
 unfolding recountedTo
 recounted-long zero row cells counts = refl
 recounted-long (suc n) row cells counts = length-set (recountedTo n row cells counts) _ _ ∙ recounted-long n row cells counts

@@ -6,6 +6,7 @@ pub mod Smaller
 pub mod PrepareLines
 pub mod EventLines
 pub mod RunLines
+pub mod BlankLines
 pub mod ViewLines
 pub mod Refusals
 pub mod Unsound
@@ -22,6 +23,7 @@ pub mod Preserved
 pub mod Program
 pub mod Protection
 pub mod Counts
+pub mod Room
 pub mod Received
 pub mod Recorded
 pub mod Runs

@@ -10,7 +10,8 @@ use Rattle.rules.specs.Cycle.{written, filled, waitedState, waited}
 use Rattle.rules.specs.Event.{react, step, next}
 use Rattle.rules.specs.Sound.{clauses, isSound}
 use Rattle.rules.specs.Trace.{eventAt, recordRefusal, turn}
-use Rattle.rules.specs.Call.{memoryRefusal, lentRefusal, worldRefusal, prepareOutcome, recountedTo, countOutcome, loadOutcome, eventOutcome, runOutcome, partOf, isPast, viewOutcome, firstRecord}
+use Rattle.rules.specs.Call.{memoryRefusal, lentRefusal, worldRefusal, prepareOutcome, recountedTo, countOutcome, lowest, blankOutcome, loadOutcome, eventOutcome}
+use Rattle.rules.specs.Call.{runOutcome, partOf, isPast, viewOutcome, firstRecord}
 
 -- What S's rise decides, and what a wait finishes.
 unfoldable pub writes : ℕ
@@ -27,5 +28,5 @@ unfolding clauses isSound memoryRefusal lentRefusal worldRefusal
 judges = 0
 
 unfoldable pub calls : ℕ
-unfolding opened judges eventAt recordRefusal turn prepareOutcome recountedTo countOutcome loadOutcome eventOutcome runOutcome partOf isPast viewOutcome firstRecord
+unfolding opened judges eventAt recordRefusal turn prepareOutcome recountedTo countOutcome lowest blankOutcome loadOutcome eventOutcome runOutcome partOf isPast viewOutcome firstRecord
 calls = 0

@@ -5,6 +5,7 @@ use Rattle.rules.specs.Refusals.{Refusals}
 use Rattle.rules.proofs.PrepareLines.{preparing}
 use Rattle.rules.proofs.EventLines.{events}
 use Rattle.rules.proofs.RunLines.{runs}
+use Rattle.rules.proofs.BlankLines.{blanks}
 use Rattle.rules.proofs.ViewLines.{views}
 
 -- Two tables as one.
@@ -13,4 +14,4 @@ both none right = right
 both (says and left) right = says and both left right
 
 pub refusals : Refusals
-refusals = both preparing (both events (both runs views))
+refusals = both preparing (both events (both runs (both blanks views)))

@@ -1,6 +1,6 @@
 -- 01, "Numbers given back": the whole outcome of each public call, for every input. Refusals are read from top to bottom.
 use Rattle.rules.specs.World.{ℕ, zero, suc, _+_, _*_, Bool, false, _&&_, ltb, getD, _-_, _%_, not, List, [], take, drop, length, eqb, leb, if_then_else_, number}
-use Rattle.rules.specs.World.{Row, Region, Event, Stored, State, World, worldOf, withStored}
+use Rattle.rules.specs.World.{Row, Region, Blank, Event, Stored, State, World, worldOf, withStored}
 use Rattle.rules.specs.Device.{isDevice, rowOf, hasIdentification, pageCount, preparedState, prepared}
 use Rattle.rules.specs.Judge.{storable}
 use Rattle.rules.specs.Cycle.{recounted}
@@ -68,6 +68,41 @@ countOutcome device cells counts =
     else if not (eqb (length counts) (pageCount row)) then 14
     else 0 in
     record { number = n; counts = if eqb n 0 then recountedTo (pageCount row) row cells counts else counts }
+
+-- W-205, where there is room: the lowest page whose count is 0, or none. A search through n numbers from p on, which stops at the first that
+-- passes a test.
+unfoldable pub lowest : (ℕ → Bool) → ℕ → ℕ → Blank
+lowest test zero p = Blank.None
+lowest test (suc n) p = if test p then Blank.Page p else lowest test n (suc p)
+
+abbrev pub firstBlank : ℕ → List ℕ → Blank
+firstBlank pages counts = lowest (λ (p : ℕ). eqb (getD counts p 0) 0) pages 0
+
+-- The answer in numbers: 1 and the page; 0 and 0 where there is none.
+abbrev pub foundNumber : Blank → ℕ
+foundNumber (Blank.Page p) = 1
+foundNumber Blank.None = 0
+
+abbrev pub pageNumber : Blank → ℕ
+pageNumber (Blank.Page p) = p
+pageNumber Blank.None = 0
+
+-- It is asked of a device and its counts alone: 1, then 14. A refusal gives no page.
+pub record Found : Type 0 where
+  pub number : ℕ
+  pub blank : Blank
+
+abbrev pub foundAs : ℕ → Blank → Found
+foundAs number blank = record { number = number; blank = blank }
+
+unfoldable pub blankOutcome : ℕ → List ℕ → Found
+blankOutcome device counts =
+    let pages = pageCount (rowOf device) in
+    let n : ℕ =
+    if not (isDevice device) then 1
+    else if not (eqb (length counts) pages) then 14
+    else 0 in
+    foundAs n (if eqb n 0 then firstBlank pages counts else Blank.None)
 
 -- What a state has stored besides cells and identification page, and the state of a chip that has this stored and has just got its power.
 abbrev pub storedAs : ℕ → ℕ → Stored

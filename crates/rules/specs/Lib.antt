@@ -19,10 +19,12 @@ pub mod Recorded
 pub mod Loaded
 pub mod Protection
 pub mod Counts
+pub mod Room
 pub mod Lines
 pub mod PrepareLines
 pub mod EventLines
 pub mod RunLines
+pub mod BlankLines
 pub mod ViewLines
 pub mod Refusals
 pub mod Unsound

@@ -4,13 +4,14 @@ use Rattle.rules.specs.World.{ℕ, _≡_, true, false, List, [], _∷_, 
 use Rattle.rules.specs.World.{withPins, withSelection, withStored, withState, withLatch}
 use Rattle.rules.specs.Device.{preparedState}
 use Rattle.rules.specs.Trace.{Progress}
-use Rattle.rules.specs.Call.{Prepared, prepareOutcome, Counted, countOutcome, storedIn, Loaded, loadOutcome, Replied, eventOutcome, runOutcome}
+use Rattle.rules.specs.Call.{Prepared, prepareOutcome, Counted, countOutcome, Found, blankOutcome, storedIn, Loaded, loadOutcome, Replied, eventOutcome, runOutcome}
 use Rattle.rules.specs.Call.{Shown, viewOutcome, First, firstRecord}
 
 -- A line: a call, and its whole outcome.
 pub data Line : Type 0 where
   prepare : ℕ → List ℕ → List ℕ → List ℕ → List ℕ → Prepared → Line
   count : ℕ → List ℕ → List ℕ → Counted → Line
+  blank : ℕ → List ℕ → Found → Line
   load : ℕ → Stored → Loaded → Line
   stored : State → Stored → Line
   event : ℕ → World → Event → Replied → Line
@@ -21,6 +22,7 @@ pub data Line : Type 0 where
 abbrev pub Gives : Line → Type 0
 Gives (prepare device cells identification latch counts r) = prepareOutcome device cells identification latch counts ≡ r
 Gives (count device cells counts r) = countOutcome device cells counts ≡ r
+Gives (blank device counts r) = blankOutcome device counts ≡ r
 Gives (load device x r) = loadOutcome device x ≡ r
 Gives (stored s r) = storedIn s ≡ r
 Gives (event device w e r) = eventOutcome device w e ≡ r

@@ -14,6 +14,7 @@ pub use Rattle.rules.specs.declared.Facts.{Facts}
 pub use Rattle.rules.specs.declared.Change.{Change}
 pub use Rattle.rules.specs.declared.Going.{Going}
 pub use Rattle.rules.specs.declared.Region.{Region}
+pub use Rattle.rules.specs.declared.Blank.{Blank}
 pub use Rattle.rules.specs.declared.Level.{Level}
 pub use Rattle.rules.specs.declared.Event.{Event}
 pub use Rattle.rules.specs.declared.Pins.{Pins}

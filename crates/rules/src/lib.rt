@@ -92,6 +92,12 @@ pub enum Region {
     Identification,
 }
 
+// Where there is room (document 02, W-205): a blank page, by its number, or none.
+pub enum Blank {
+    Page(usize),
+    None,
+}
+
 // A level of the output Q.
 pub enum Level {
     Low,

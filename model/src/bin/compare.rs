@@ -1,7 +1,8 @@
 //! `compare --play "COMMAND" --bench "COMMAND" [--seed S] [--records N] [--keep DIR]` runs other programs beside the
 //! model on generated traces, until N records were done or something differs (status 1).
 //!
-//! Either command may be left out. DIR holds the files of the running comparison and, after a difference, keeps them.
+//! The other `play` is also asked for blank pages, of the chips that its runs left and of some made for this. Either
+//! command may be left out. DIR holds the files of the running comparison and, after a difference, keeps them.
 
 use std::path::PathBuf;
 use std::process::ExitCode;
@@ -65,9 +66,13 @@ fn report(order: &Order, outcome: &Outcome) -> ExitCode {
         "{:<10} {:>6} {:>10} {:>12}",
         "profile", "runs", "records", "differences"
     );
+    let profiles = Profile::ALL.map(Profile::name).into_iter();
+    let blanks = [
+        ("blank left", outcome.blank_left),
+        ("blank made", outcome.blank_made),
+    ];
     let (mut runs, mut differences) = (0, 0);
-    for (profile, tally) in Profile::ALL.iter().zip(&outcome.tallies) {
-        let name = profile.name();
+    for (name, tally) in profiles.zip(outcome.tallies).chain(blanks) {
         println!(
             "{name:<10} {:>6} {:>10} {:>12}",
             tally.runs, tally.records, tally.differences

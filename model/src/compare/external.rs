@@ -3,7 +3,7 @@
 use std::fs::{self, File};
 use std::io::{self, ErrorKind};
 use std::path::{Path, PathBuf};
-use std::process::{Command, Output, Stdio};
+use std::process::{Command, ExitStatus, Output, Stdio};
 
 use crate::device::{Device, DEVICES};
 
@@ -18,6 +18,14 @@ pub(super) struct Given {
     pub text: String,
     pub answers: Vec<u8>,
     pub chip: Vec<u8>,
+}
+
+/// What came of asking for a blank page.
+pub(super) struct Said {
+    pub text: String,
+    pub status: ExitStatus,
+    /// The file afterwards, none where there is none.
+    pub chip: Option<Vec<u8>>,
 }
 
 impl Program {
@@ -54,6 +62,20 @@ impl Program {
             text: text(&output),
             answers: files.read_or_empty("answers")?,
             chip: files.read_or_empty(&chip)?,
+        })
+    }
+
+    /// Asks `play` for the first blank page of the chip in this file.
+    pub fn blank(&self, device: &Device, chip: &str, files: &Files) -> io::Result<Said> {
+        let output = self
+            .command()?
+            .args(["blank", &device.number.to_string()])
+            .arg(files.path(chip))
+            .output()?;
+        Ok(Said {
+            text: String::from_utf8_lossy(&output.stdout).into_owned(),
+            status: output.status,
+            chip: files.read(chip)?,
         })
     }
 
@@ -106,12 +128,17 @@ impl Files {
         fs::copy(self.path(from), self.path(to)).map(drop)
     }
 
+    /// None where there is no such file.
+    fn read(&self, name: &str) -> io::Result<Option<Vec<u8>>> {
+        match fs::read(self.path(name)) {
+            Err(error) if error.kind() == ErrorKind::NotFound => Ok(None),
+            read => read.map(Some),
+        }
+    }
+
     /// A file that a program did not make counts as an empty one.
     fn read_or_empty(&self, name: &str) -> io::Result<Vec<u8>> {
-        match fs::read(self.path(name)) {
-            Err(error) if error.kind() == ErrorKind::NotFound => Ok(Vec::new()),
-            read => read,
-        }
+        Ok(self.read(name)?.unwrap_or_default())
     }
 
     pub fn remove(&self, name: &str) -> io::Result<()> {
@@ -135,6 +162,7 @@ impl Files {
             self.remove(&super::chip_name(device))?;
         }
         for name in [
+            "chip-blank",
             "chip-before",
             "chip-expected",
             "trace",

@@ -1,12 +1,13 @@
 //! `sharpness [SEEDS]` shows that generated traces notice mistakes: it runs the model with each named fault beside
 //! the right one, on short traces of all profiles and devices, and prints where each first shows. Mistakes of the bench
-//! program, of a view, of judging a state, of loading one, of a count that is wrong before and of lending counts, which
-//! no trace can show, are held to inputs of their own.
+//! program, of a view, of judging a state, of loading one, of a count that is wrong before, of lending counts and of
+//! looking for a blank page, which no trace can show, are held to inputs of their own.
 //!
 //! `sharpness --stored DIR` does so with the vectors that `store` wrote to DIR.
 //!
 //! A fault that nothing shows ends the program with status 1, unless a reason for it is given here.
 
+mod blanks;
 mod counts;
 mod states;
 mod stored;
@@ -15,6 +16,7 @@ mod views;
 use std::process::ExitCode;
 use std::rc::Rc;
 
+use blanks::Blanks;
 use counts::Counted;
 use m95_model::generate::{
     bench_input, odd_bench_input, trace_with_tail, Profile, Random, ODD_BENCH_INPUTS, TAILS,
@@ -78,6 +80,7 @@ fn show_generated(seeds: u64) -> usize {
         "fault", "profile", "device", "by", "records", "traces"
     );
     let (inputs, views, counted) = (bench_inputs(seeds), Views::new(), Counted::new());
+    let blanks = Blanks::new();
     let is_seen = |fault: Fault| match fault {
         _ if fault.is_of_bench() => show_bench(fault, &inputs),
         _ if fault.is_of_view() => views.show(fault),
@@ -85,6 +88,7 @@ fn show_generated(seeds: u64) -> usize {
         _ if fault.is_of_load() => states::show_load(fault),
         _ if fault.is_of_wrong_count() => counted.show(fault),
         _ if fault.is_of_lent() => counts::show_lent(fault),
+        _ if fault.is_of_blank() => blanks.show(fault),
         _ => show(fault, &cases),
     };
     let missed = Fault::ALL.iter().filter(|fault| !is_seen(**fault)).count();

@@ -21,6 +21,7 @@ const FILE: &str =
     "only cells that a chip's file brings show it, which a vector does not start with";
 const WRONG: &str = "only a wrong count shows it, which a vector does not start with";
 const LENT: &str = "only preparing or the counts' length shows it, which a vector does not hold";
+const BLANK: &str = "only a search for a blank page shows it, which a vector does not hold";
 const BENCH: &str = "only the bench program shows it, which a vector does not run";
 
 /// Faults that no vector can notice, and why.
@@ -98,6 +99,7 @@ fn elsewhere(fault: Fault) -> Option<&'static str> {
         _ if fault.is_of_load() => Some(LOAD),
         _ if fault.is_of_wrong_count() => Some(WRONG),
         _ if fault.is_of_lent() => Some(LENT),
+        _ if fault.is_of_blank() => Some(BLANK),
         _ => None,
     }
 }

@@ -50,32 +50,29 @@ returns c = search needs
 load-requires-2 : tie.Need-load-requires-2
 load-requires-2 c κs = search needs
 
-slice-aggregate-complain : tie.Need-slice-aggregate-complain
-slice-aggregate-complain c = search needs
-
-complain-requires : tie.Need-complain-requires
-complain-requires c κs = search needs
+is-unstorable-requires : tie.Need-is-unstorable-requires
+is-unstorable-requires c κs = search needs
 
 same-length-5 : tie.Need-same-length-5
 same-length-5 c =
-    let at-cells2 = c .before .before .before .before .before .before .before .before .before .before in
+    let at-cells2 = c .before .before .before .before .before .before .before .before in
     let at-cells = at-cells2 .before .before .before .before .before .before .before .before .before .before .before .before in
     at-cells2 .cells2 .given ∙ at-cells .cells .given
 
 same-length-6 : tie.Need-same-length-6
 same-length-6 c =
-    let at-identification2 = c .before .before .before .before .before .before .before .before in
+    let at-identification2 = c .before .before .before .before .before .before in
     let at-identification = at-identification2 .before .before .before .before .before .before .before .before .before .before .before .before in
     at-identification2 .identification2 .given ∙ at-identification .identification .given
 
 same-length-7 : tie.Need-same-length-7
 same-length-7 c =
-    let at-latch = c .before .before .before .before .before .before .before .before .before .before .before .before .before .before .before .before .before .before in
+    let at-latch = c .before .before .before .before .before .before .before .before .before .before .before .before .before .before .before .before in
     at-latch .latch .given
 
 same-length-8 : tie.Need-same-length-8
 same-length-8 c =
-    let at-counts = c .before .before .before .before .before .before .before .before .before .before .before .before .before .before .before .before in
+    let at-counts = c .before .before .before .before .before .before .before .before .before .before .before .before .before .before in
     at-counts .counts .given
 
 returns-2 : tie.Need-returns-2
@@ -89,7 +86,8 @@ play-loaded-requires c κs =
     let at-counts2 = c .before .before .before .before .before in
     let at-count-pages = at-counts2 .before in
     let at-if2 = at-count-pages .before .before .before in
-    let at-load2 = at-if2 .before .before in
+    let judged = at-if2 .before in
+    let at-load2 = judged .before in
     let at-identification2 = at-load2 .before .before .before .before in
     let at-cells2 = at-identification2 .before .before in
     let at-load = at-cells2 .before in
@@ -98,7 +96,7 @@ play-loaded-requires c κs =
     let given = start .args in
     let chip = at-load2 .load2 in
     loaded (given .device) (given .cells .now) (given .identification .now) (given .latch .now) (given .counts .now) (start .pre) _ _ _ _ _ _ (at-prepare .prepare .ensures)
-    (at-load .load .result .stored) (chip .result .number) (chip .result .state) (chip .ensures) (at-if2 .if2 .left) _ _ _
+    (at-load .load .result .stored) (chip .result .number) (chip .result .state) (chip .ensures) (judged .is-unstorable .ensures (at-if2 .if2 .left)) _ _ _
     (at-cells2 .cells2 .given) (at-identification2 .identification2 .given) (at-counts2 .counts2 .given) _ (at-count-pages .count-pages .ensures)
 
 same-length-9 : tie.Need-same-length-9
@@ -145,8 +143,7 @@ play-lent-spec =
     same-length-4
     returns
     load-requires-2
-    slice-aggregate-complain
-    complain-requires
+    is-unstorable-requires
     same-length-5
     same-length-6
     same-length-7
