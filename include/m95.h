@@ -131,7 +131,8 @@ size_t m95_count_pages(size_t device, const uint8_t *cells, size_t cells_length,
  * leaves 0 in both, refused or not; since the first page has that number too, look at `found` before `page`.
  *
  * No cell is read, and the counts are taken at their word: m95_prepare and events keep them right, and then all cells of the page are FFh.
- * After cells were filled otherwise m95_count_pages comes first, or else the page may have something in it.
+ * After cells were filled otherwise m95_count_pages comes first, or else the page may have something in it. A write that still runs counts
+ * only when it ends; and whether the page is protected is not asked.
  */
 size_t m95_first_blank(size_t device, const uint16_t *counts, size_t counts_length, size_t *found, size_t *page);
 

@@ -129,9 +129,9 @@ void lend_nothing(const Chip &good) {
         expect(chip.view(M95_REGION_CELLS) == views[none], "a view of the cells judges both vectors", chip.device);
         expect(chip.view(M95_REGION_IDENTIFICATION) == views[none], "and so does one of the identification page", chip.device);
         expect(chip.count() == counted[none], "counting judges cells and counts", chip.device);
-        std::size_t found = 9, page = 9;
-        expect(chip.first_blank(found, page) == searched[none], "a search judges the counts alone", chip.device);
-        expect(searched[none] == M95_DONE || found + page == 0, "and finds nothing where there are none", chip.device);
+        std::size_t found = 9, blank = 9;
+        expect(chip.first_blank(found, blank) == searched[none], "a search judges the counts alone", chip.device);
+        expect(searched[none] == M95_DONE || found + blank == 0, "and finds nothing where there are none", chip.device);
     }
 }
 

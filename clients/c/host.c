@@ -46,9 +46,20 @@ static int read_cells(const char *name, size_t length) {
     return is_good;
 }
 
+/* Prints where there is room. The counts are right: they were taken from the image, and the trace has kept them so. */
+static void tell_room(size_t device) {
+    size_t found, page;
+    m95_first_blank(device, counts, m95_pages(device), &found, &page);
+    if (found) {
+        printf("the first blank page is %zu, from %04zXh on\n", page, page * m95_page(device));
+    } else {
+        printf("no page is blank\n");
+    }
+}
+
 int main(int count, char **words) {
     size_t device = count == 7 ? number_of(words[1], 10) : 0, length = m95_cells(device);
-    size_t records = 0, left = 0, more, taken, done, number, status, stored, lock, found, page;
+    size_t records = 0, left = 0, more, taken, done, number, status, stored, lock;
     if (m95_prepare(device, LENT) != M95_DONE) {
         return tell("it takes a device, 1 to 7, and five more words", "host DEVICE STATUS LOCK IMAGE TRACE SAVED");
     }
@@ -79,12 +90,7 @@ int main(int count, char **words) {
     }
     m95_status_byte(state, sizeof state, &status);
     m95_stored(state, sizeof state, &stored, &lock);
-    m95_first_blank(device, counts, m95_pages(device), &found, &page); /* the trace has kept the counts right */
     printf("number %zu, records %zu, status %02zX, stored %02zX, lock %zu\n", number, records, status, stored, lock);
-    if (found) {
-        printf("the first blank page is %zu, from %04zXh on\n", page, page * m95_page(device));
-    } else {
-        printf("no page is blank\n");
-    }
+    tell_room(device);
     return number == M95_DONE ? 0 : 1;
 }

@@ -1,11 +1,12 @@
 //! The first blank page, the wrapper's call beside the second model's: each page as the only blank one, counts of chance with few zeros
-//! among them, every wrong length, and the counts that generated traces leave, where both also say what the cells themselves do.
+//! among them, every wrong length, the model's own questions with each of its faults, and the counts that generated traces leave, where both
+//! also say what the cells themselves do.
 
 mod common;
 
 use common::Pair;
-use m95_model::generate::{counts, events, records_of, Counting, Profile, Random};
-use m95_model::{Device, Number, DEVICES};
+use m95_model::generate::{blanks, counts, events, records_of, Counting, Profile, Random};
+use m95_model::{Device, Fault, Number, DEVICES};
 use proved::refused;
 
 /// What the model says, as the library would; a refused search finds nothing.
@@ -103,6 +104,28 @@ fn lengths_of_counts() {
             }
         }
     }
+}
+
+/// The model's chosen questions: the library answers each as the model does, and no fault of the model answers all of them so.
+#[test]
+fn chosen_questions() {
+    let faults = Fault::ALL
+        .iter()
+        .copied()
+        .filter(|fault| fault.is_of_blank());
+    let mut unnoticed: Vec<Fault> = faults.collect();
+    assert!(!unnoticed.is_empty());
+    for question in DEVICES.iter().flat_map(blanks) {
+        let answer = match search(question.device, &question.counts) {
+            Ok(page) => (0, page),
+            Err(number) => (number, None),
+        };
+        unnoticed.retain(|&fault| {
+            let (number, page) = question.ask(fault);
+            (number as usize, page) == answer
+        });
+    }
+    assert_eq!(unnoticed, []);
 }
 
 /// Both with a byte other than FFh in every page but half of those at the edges, which generated traces like to write to; counted.

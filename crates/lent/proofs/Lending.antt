@@ -1,4 +1,5 @@
--- What the lent buffers are refused with, and the outcome of preparing, of counting, of the search for a blank page and of loading: one law for each way through the rules.
+-- What the lent buffers are refused with, and the outcome of preparing, of counting, of the search for a blank page and of loading: one law for
+-- each way through the rules.
 use Prim.Native.Nat.{ℕ, _+_, _-_, _*_, _≤_, _<_}
 use mathlib.Core.Path.{_≡_, sym, ap, _∙_, subst}
 use mathlib.Core.Bool.{Bool, true, false, not}

@@ -1,5 +1,6 @@
-// The library: prepare, count, the first blank page, load, event, run, what is stored, and a view of a page. Each call takes any input whatever, and its contract says its
-// whole answer and the whole contents of every lent buffer as one function of the input: the outcomes of rules/specs/Call.antt.
+// The library: prepare, count, the first blank page, load, event, run, what is stored, and a view of a page. Each call takes any input whatever,
+// and its contract says its whole answer and the whole contents of every lent buffer as one function of the input: the outcomes of
+// rules/specs/Call.antt.
 
 ghost use mathlib.Core.Path.{_≡_};
 ghost use Rattle.rules.specs.World.{worldOf};

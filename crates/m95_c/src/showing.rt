@@ -1,4 +1,5 @@
-// The calls that show a size, the first blank page, the status, what is stored or a page. A size is given back; the rest goes to the numbers that are lent for it.
+// The calls that show a size, the first blank page, the status, what is stored or a page. A size is given back; the rest goes to the numbers that
+// are lent for it.
 
 ghost use mathlib.Core.Path.{_≡_};
 ghost use Rattle.rules.specs.Device.{rowOf};

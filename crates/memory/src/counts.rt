@@ -72,7 +72,7 @@ pub fn recount_all(row: Row, cells: &[u8], counts: &mut [u16])
     }
 }
 
-// The lowest page whose count is 0, or none: the search stops there.
+// The lowest page whose count is 0, or none. Later counts are not read.
 pub fn first_blank(counts: &[u16]) -> Blank
     ensures { λ r. ⌜ r ≡ firstBlank (length (now (counts .entry))) (now (counts .entry)) ⌝ }
 {

@@ -72,18 +72,18 @@ fn occupy() {
     }
 }
 
-// The words of a question.
+// Reads the words of a question, and asks it.
 fn ask_words() {
     let mut what = io::buffer();
     let mut word = io::buffer();
     let mut chip = io::buffer();
-    let b = os::arg(1, &mut what);
+    let q = os::arg(1, &mut what);
     let w = os::arg(2, &mut word);
     let c = os::arg(3, &mut chip);
-    ask(&what[..b], &word[..w], &chip[..c]);
+    ask(&what[..q], &word[..w], &chip[..c]);
 }
 
-// The words of a run.
+// Reads the words of a run, and plays it.
 fn play_words() {
     let mut word = io::buffer();
     let mut chip = io::buffer();

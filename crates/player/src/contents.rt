@@ -66,6 +66,15 @@ fn read_said(row: Row, fd: i32, cells: &mut [u8], identification: &mut [u8]) -> 
     judged(row, first.count + second.count + third.count, stored)
 }
 
+// The contents of an open file, which is then closed.
+fn read_closed(row: Row, fd: i32, cells: &mut [u8], identification: &mut [u8]) -> Said
+    requires { ⌜ (Widths row) × (length (now cells) ≡ row .cells) × (length (now identification) ≡ row .identification) ⌝ }
+{
+    let said = read_said(row, fd, cells, identification);
+    libc::close(fd);
+    said
+}
+
 // The contents of the file at a path; as prepared where there is none.
 pub fn load(row: Row, path: &[u8], cells: &mut [u8], identification: &mut [u8]) -> Said
     requires { ⌜ (Widths row) × (length (now cells) ≡ row .cells) × (length (now identification) ≡ row .identification) ⌝ }
@@ -80,9 +89,7 @@ pub fn load(row: Row, path: &[u8], cells: &mut [u8], identification: &mut [u8]) 
         };
         return silent(fault);
     }
-    let said = read_said(row, fd, cells, identification);
-    libc::close(fd);
-    said
+    read_closed(row, fd, cells, identification)
 }
 
 // The contents of the file at a path, which has to be there.
@@ -93,9 +100,7 @@ pub fn load_existing(row: Row, path: &[u8], cells: &mut [u8], identification: &m
     if fd < 0 {
         return silent(Fault::Unread);
     }
-    let said = read_said(row, fd, cells, identification);
-    libc::close(fd);
-    said
+    read_closed(row, fd, cells, identification)
 }
 
 // Writes the contents whole, and answers whether all of it is in the file.

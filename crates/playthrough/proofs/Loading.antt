@@ -1,10 +1,11 @@
 -- That a prepared chip with what its file holds can be played on.
 use Prim.Native.Nat.{ℕ}
 use mathlib.Core.Path.{_≡_, sym, ap, _∙_, subst}
-use mathlib.Core.Bool.{true}
+use mathlib.Core.Bool.{Bool, true, false, not}
 use mathlib.Core.List.{List}
 use lib.ListN.{length}
-use borrow.Author.Tests.{eq-eqb}
+use lib.Dec.{eqb}
+use borrow.Author.Tests.{eq-eqb, eqb-true, not-false}
 use Rattle.rules.specs.declared.Row.{Row}
 use Rattle.rules.specs.declared.State.{State}
 use Rattle.rules.specs.declared.Stored.{Stored}
@@ -19,6 +20,18 @@ use Rattle.rules.proofs.Widths.{of-device}
 use Rattle.rules.proofs.Loaded.{load-taken, loaded-sound}
 use Rattle.rules.proofs.Incident.{prepared-sound, prepared-lent}
 use Rattle.player.specs.Playing.{Playable}
+
+-- Cells and counts of a device's lengths are counted.
+pub counting-taken : (device : ℕ) (cells counts : List ℕ) → isDevice device ≡ true → length cells ≡ rowOf device .cells → length counts ≡ pageCount (rowOf device)
+    → countOutcome device cells counts .number ≡ 0
+unfolding countOutcome
+counting-taken device cells counts known ec ek =
+    let row = rowOf device in
+    rw (known, eq-eqb (length cells) (row .cells) ec, eq-eqb (length counts) (pageCount row) ek)
+
+-- What is not complained of is not refused.
+pub storable : {n : ℕ} {b : Bool} → b ≡ not (eqb n 0) → b ≡ false → n ≡ 0
+storable {n} e f = eqb-true n 0 (not-false (eqb n 0) (sym e ∙ f))
 
 -- A prepared chip with what its file holds is not refused, and once its pages are counted it can be played on.
 module _ (device : ℕ) (cells identification latch counts : List ℕ) (z : lentRefusal device cells identification latch counts ≡ 0)
@@ -35,13 +48,6 @@ module _ (device : ℕ) (cells identification latch counts : List ℕ) (z : lent
 
   pub load-fits : (row : Row) → row ≡ rowOf device → Widths row × (length c ≡ row .cells) × (length i ≡ row .identification)
   load-fits row e = rw e (of-device device, ready-lent .cells, ready-lent .identification)
-
-  -- Counting is not refused either.
-  counted : (c′ : List ℕ) → length c′ ≡ length c → countOutcome device c′ k .number ≡ 0
-  unfolding countOutcome
-  counted c′ ec =
-      let row = rowOf device in
-      rw (known, eq-eqb (length c′) (row .cells) (ec ∙ ready-lent .cells), eq-eqb (length k) (pageCount row) (ready-lent .counts))
 
   module _ (x : Stored) (m : ℕ) (t : State) (eo : loadedAs m t ≡ loadOutcome device x) (taken : m ≡ 0) (c′ i′ k′ : List ℕ) where
     pub loaded : length c′ ≡ length c → length i′ ≡ length i → length k′ ≡ length k → (q : ℕ) → countedAs q k′ ≡ countOutcome device c′ k
@@ -61,5 +67,5 @@ module _ (device : ℕ) (cells identification latch counts : List ℕ) (z : lent
         } in
         record {
           taken = world-taken device (worldOf t c′ i′ l k′) known sound′ lent;
-          agrees = subst (Agree row c′) (sym (ap (λ (o : Counted). o .counts) en)) (counted-agrees device c′ k (counted c′ ec));
+          agrees = subst (Agree row c′) (sym (ap (λ (o : Counted). o .counts) en)) (counted-agrees device c′ k (counting-taken device c′ k known (ec ∙ ready-lent .cells) (ready-lent .counts)));
         }

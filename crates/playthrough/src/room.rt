@@ -3,15 +3,18 @@
 ghost use mathlib.Core.Bool.{true};
 ghost use mathlib.Core.Path.{_≡_};
 ghost use lib.ListN.{length};
-ghost use Rattle.rules.specs.Device.{isDevice, rowOf};
+ghost use Rattle.rules.specs.Device.{isDevice, rowOf, pageCount};
+ghost use Rattle.rules.specs.Call.{countOutcome};
 use crate::say::complain;
 use crate::say::is_faulty;
 use crate::say::is_unstorable;
 use libc::STDOUT_FILENO;
 use player::contents;
 
-// Tells the first blank page of cells that were read.
-fn tell_room(device: u8, cells: &[u8], counts: &mut [u16]) {
+// Prints the line on the room in cells that were read.
+fn tell_room(device: u8, cells: &[u8], counts: &mut [u16])
+    requires { ⌜ countOutcome device (now cells) (now counts) .number ≡ 0 ⌝ }
+{
     let mut line = [0u8; 32];
     let length = player::room::put_room(device, cells, counts, &mut line);
     if !io::write_all(STDOUT_FILENO, &line[..length]) {
@@ -19,8 +22,8 @@ fn tell_room(device: u8, cells: &[u8], counts: &mut [u16]) {
     }
 }
 
-// Tells it of the chip in a file, by buffers of the device's lengths. A file that a run would refuse is refused here too, and so is one that is
-// not there: the page of a new chip is not what was asked for.
+// Prints it for the chip in a file, in buffers of the device's lengths. Contents that a run would refuse are refused here too, and so is a file
+// that is not there: a name that was mistyped must not be answered with page 0 of a new chip.
 fn ask_lent(
     device: u8,
     cells: &mut [u8],
@@ -28,6 +31,7 @@ fn ask_lent(
     counts: &mut [u16],
     chip: &[u8],
 )
+    requires { ⌜ (isDevice device ≡ true) × (length (now counts) ≡ pageCount (rowOf device)) ⌝ }
     requires { ⌜ (length (now cells) ≡ rowOf device .cells) × (length (now identification) ≡ rowOf device .identification) ⌝ }
 {
     let row = tables::row_of(device);
@@ -43,7 +47,7 @@ fn ask_lent(
     tell_room(device, cells, counts);
 }
 
-// Tells it in as much of the room as the device has cells and pages.
+// Prints it for a device, in buffers of which as much is lent as the device has cells and pages.
 pub fn ask_device(device: u8, chip: &[u8])
     requires { ⌜ isDevice device ≡ true ⌝ }
 {
@@ -51,13 +55,13 @@ pub fn ask_device(device: u8, chip: &[u8])
     let mut identification = [0u8; 256];
     let mut counts = [0u16; 1024];
     let row = tables::row_of(device);
-    let room = row.cells;
-    let identification_room = row.identification;
+    let last = row.cells;
+    let identification_last = row.identification;
     let pages = tables::page_count(row);
     ask_lent(
         device,
-        &mut cells[..room],
-        &mut identification[..identification_room],
+        &mut cells[..last],
+        &mut identification[..identification_last],
         &mut counts[..pages],
         chip,
     );

@@ -1,8 +1,9 @@
 // What play says: one line on standard error for what is wrong, and the last line on standard output.
 
 ghost use Prim.Native.Nat.{_<_};
-ghost use mathlib.Core.Bool.{false};
+ghost use mathlib.Core.Bool.{not};
 ghost use mathlib.Core.Path.{_≡_};
+ghost use lib.Dec.{eqb};
 ghost use Rattle.rules.specs.Send.{statusByte};
 use libc::STDERR_FILENO;
 use libc::STDOUT_FILENO;
@@ -44,7 +45,7 @@ pub fn is_faulty(fault: Fault, path: &[u8]) -> bool {
 
 // A line for what a chip's file has stored and its device cannot, and whether there was one.
 pub fn is_unstorable(number: usize) -> bool
-    ensures { λ r. ⌜ (r ≡ false → number ≡ 0) ⌝ }
+    ensures { λ r. ⌜ r ≡ not (eqb number 0) ⌝ }
 {
     if number == 0 {
         return false;

@@ -1,4 +1,4 @@
--- W-205's theorems: `first-blank-says`, `blank-stops`, `blank-as-read`, `counted-as-read`.
+-- W-205's theorems: `first-blank-says`, `blank-numbers`, `blank-stops`, `blank-as-read`, `counted-as-read`.
 use Prim.Native.Nat.{ℕ, zero, suc, _+_, _*_, _≤_, _<_}
 use mathlib.Core.Path.{_≡_, refl, sym, ap, _∙_, subst}
 use mathlib.Core.Bool.{Bool, true, false, not}
@@ -8,11 +8,11 @@ use native.Mathlib.Nat.{eq-or-lt-of-le}
 use native.Mathlib.Omega.{arith}
 use lib.ListN.{length, getD}
 use lib.Dec.{eqb}
-use borrow.Author.Tests.{eqb-true, eqb-false}
+use borrow.Author.Tests.{eqb-true, eqb-false, not-false}
 use Rattle.rules.specs.World.{Blank, if_then_else_}
 use Rattle.rules.specs.Device.{isDevice, rowOf, pageCount}
 use Rattle.rules.specs.Call.{recountedTo, countOutcome, lowest, firstBlank, foundAs, blankOutcome}
-use Rattle.rules.specs.Room.{Lowest, Answers, FirstBlankSays, BlankStops, IsBlank, BlankAsRead, CountedAsRead}
+use Rattle.rules.specs.Room.{Lowest, Answers, FirstBlankSays, BlankNumbers, BlankStops, IsBlank, BlankAsRead, CountedAsRead}
 use Rattle.rules.proofs.Choice.{if-elim}
 use Rattle.rules.proofs.Counts.{filled-says, recounted-long, counted-agrees}
 
@@ -76,21 +76,31 @@ module _ (Holds : ℕ → Type 0) where
       (searched (λ (p : ℕ). eqb (getD counts p 0) 0) pages 0
       (λ q u. (λ e. tells q (omega arith) .0 (eqb-true (getD counts q 0) 0 e), λ e h. eqb-false (getD counts q 0) 0 e (tells q (omega arith) .1 h))))
 
-  answered : (device : ℕ) (counts : List ℕ) → ((q : ℕ) → q < pageCount (rowOf device) → ByCount counts q) → Answers device counts Holds
+  answered : (device : ℕ) (counts : List ℕ) → (length counts ≡ pageCount (rowOf device) → (q : ℕ) → q < pageCount (rowOf device) → ByCount counts q)
+      → Answers device counts Holds
   unfolding blankOutcome
   answered device counts tells =
       let pages = pageCount (rowOf device) in
       let first = firstBlank pages counts in
-      let found = first-is-lowest pages counts tells in
+      let fits = eqb (length counts) pages in
       let Exactly : Blank → Type 0 = λ (x : Blank). (b : Blank) → (x ≡ b → Lowest Holds pages b) × (Lowest Holds pages b → x ≡ b) in
       let P : ℕ → Type 0 = λ (n : ℕ). n ≡ 0 → Exactly (if eqb n 0 then first else Blank.None) in
       if-elim P (not (isDevice device)) (λ _ e. absurd (omega arith))
-      (λ _. if-elim P (not (eqb (length counts) pages)) (λ _ e. absurd (omega arith))
-      (λ _ _ b. (λ e. subst (Lowest Holds pages) e found, one-lowest pages first b found)))
+      (λ _. if-elim P (not fits) (λ _ e. absurd (omega arith))
+      (λ long _ b.
+      let found = first-is-lowest pages counts (tells (eqb-true _ _ (not-false fits long))) in
+      (λ e. subst (Lowest Holds pages) e found, one-lowest pages first b found)))
 
 pub first-blank-says : FirstBlankSays
 unfolding ByCount
-first-blank-says device counts = answered (λ (p : ℕ). getD counts p 0 ≡ 0) device counts (λ q u. (λ e. e, λ e. e))
+first-blank-says device counts =
+    answered (λ (p : ℕ). (p < length counts) × (getD counts p 0 ≡ 0)) device counts (λ long q u. (λ e. (omega arith, e), λ h. h .1))
+
+pub blank-numbers : BlankNumbers
+blank-numbers (Blank.Page p) (Blank.Page q) e f = ap Blank.Page f
+blank-numbers (Blank.Page p) Blank.None e f = absurd (omega arith)
+blank-numbers Blank.None (Blank.Page q) e f = absurd (omega arith)
+blank-numbers Blank.None Blank.None e f = refl
 
 -- Counts that are the same up to the page that is answered.
 same-first : (pages : ℕ) (xs ys : List ℕ) (p : ℕ) → ((q : ℕ) → q ≤ p → getD ys q 0 ≡ getD xs q 0) → firstBlank pages xs ≡ Blank.Page p → firstBlank pages ys ≡ Blank.Page p
@@ -114,7 +124,7 @@ unfolding ByCount
 blank-as-read device cells counts agree =
     let row = rowOf device in
     answered (IsBlank row cells) device counts
-    (λ q u.
+    (λ _ q u.
     let says = filled-says (row .page) (q * row .page) cells .0 in
     (λ e. says .0 (sym (agree q u) ∙ e), λ h. agree q u ∙ says .1 h))
 

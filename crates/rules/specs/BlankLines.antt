@@ -1,5 +1,5 @@
 -- Where there is room, by example: each answer and each number that the question can get.
-use Rattle.rules.specs.World.{ℕ, List, [], _∷_, _++_, replicate, Blank}
+use Rattle.rules.specs.World.{List, [], _∷_, _++_, replicate, Blank}
 use Rattle.rules.specs.Call.{foundAs}
 use Rattle.rules.specs.Lines.{Line, blank}
 

@@ -1,7 +1,7 @@
 -- W-205 as statements: which page is answered, that the search stops there, and that right counts answer as the cells themselves do.
 use Rattle.rules.specs.World.{ℕ, _+_, _*_, _≤_, _<_, _≡_, List, getD, length, Row, Blank}
 use Rattle.rules.specs.Device.{rowOf, pageCount}
-use Rattle.rules.specs.Call.{countOutcome, blankOutcome}
+use Rattle.rules.specs.Call.{countOutcome, foundNumber, pageNumber, blankOutcome}
 use Rattle.rules.specs.Counts.{Agree}
 
 -- The lowest number below n of which something holds, or that there is none.
@@ -15,11 +15,15 @@ Answers device counts Holds =
     let r = blankOutcome device counts in
     r .number ≡ 0 → (b : Blank) → (r .blank ≡ b → Lowest Holds (pageCount (rowOf device)) b) × (Lowest Holds (pageCount (rowOf device)) b → r .blank ≡ b)
 
--- The theorem `first-blank-says`: the answer is the lowest page whose count is 0, whether or not that count is right.
+-- The theorem `first-blank-says`: the answer is the lowest page that has a count of 0, whether or not that count is right.
 abbrev pub FirstBlankSays : Type 0
-FirstBlankSays = (device : ℕ) (counts : List ℕ) → Answers device counts (λ (p : ℕ). getD counts p 0 ≡ 0)
+FirstBlankSays = (device : ℕ) (counts : List ℕ) → Answers device counts (λ (p : ℕ). (p < length counts) × (getD counts p 0 ≡ 0))
 
--- The theorem `blank-stops`: what stands behind the page that is answered is not looked at.
+-- The theorem `blank-numbers`: the two numbers of an answer tell it from every other.
+abbrev pub BlankNumbers : Type 0
+BlankNumbers = (a b : Blank) → foundNumber a ≡ foundNumber b → pageNumber a ≡ pageNumber b → a ≡ b
+
+-- The theorem `blank-stops`: what stands behind the page that is answered makes no difference.
 abbrev pub BlankStops : Type 0
 BlankStops =
     (device : ℕ) (xs ys : List ℕ) (p : ℕ) → length ys ≡ length xs → ((q : ℕ) → q ≤ p → getD ys q 0 ≡ getD xs q 0) → blankOutcome device xs .blank ≡ Blank.Page p

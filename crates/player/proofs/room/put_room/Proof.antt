@@ -1,21 +1,23 @@
 -- `player::room::put_room` meets its contract.
 use Prim.Native.Nat.{ℕ}
-use mathlib.Core.Path.{_≡_, ap, _∙_}
+use mathlib.Core.Path.{_≡_, sym, ap, _∙_, subst}
 use mathlib.Core.List.{List}
 use Rattle.rules.specs.declared.Blank.{Blank}
 use Rattle.rules.specs.Call.{Counted, countedAs, countOutcome, Found, foundAs, blankOutcome}
-use Rattle.text.proofs.Putting.{same-text, joined, whole}
-use Rattle.player.specs.Room.{roomLine, roomText}
+use Rattle.rules.specs.Device.{rowOf, pageCount}
+use Rattle.rules.specs.Room.{Lowest, IsBlank}
+use Rattle.rules.proofs.Room.{counted-as-read}
+use Rattle.text.proofs.Putting.{joined, whole}
 use borrow.Author.Needs.{needs}
 use Rattle.player.proofs.room.put_room.Statement.{statement}
 use Rattle.player.proofs.room.put_room.Tie as tie
 
--- What was counted and then found is what the line speaks of.
-named : (device : ℕ) (cells counts : List ℕ) {q m : ℕ} {k : List ℕ} {b : Blank} → countedAs q k ≡ countOutcome device cells counts → foundAs m b ≡ blankOutcome device k
-    → roomLine b ≡ roomText device cells counts
-unfolding roomText
-named device cells counts ec ef =
-    ap (λ (f : Found). roomLine (f .blank)) (ef ∙ ap (λ (o : Counted). blankOutcome device (o .counts)) ec)
+-- What was counted and then found is the first blank page of the cells.
+named : (device : ℕ) (cells counts : List ℕ) {q m : ℕ} {k : List ℕ} {b : Blank} → countOutcome device cells counts .number ≡ 0 → countedAs q k ≡ countOutcome device cells counts
+    → foundAs m b ≡ blankOutcome device k → Lowest (IsBlank (rowOf device) cells) (pageCount (rowOf device)) b
+named device cells counts z ec ef =
+    let found = ef ∙ ap (λ (o : Counted). blankOutcome device (o .counts)) ec in
+    subst (Lowest (IsBlank (rowOf device) cells) (pageCount (rowOf device))) (sym (ap (λ (f : Found). f .blank) found)) (counted-as-read device cells counts z .1)
 
 count-pages-requires : tie.Need-count-pages-requires
 count-pages-requires c κs = search needs
@@ -45,8 +47,9 @@ returns c =
     let at-count-pages = at-first-blank .before .before .before .before in
     let start = at-count-pages .before .before .before .before .before in
     let given = start .args in
-    let line = named (given .device) (given .cells .now) (given .counts .now) (at-count-pages .count-pages .ensures) (at-first-blank .first-blank .ensures) in
-    whole _ _ _ _ (same-text line (joined (at-put .put .ensures) (c .before .before .put-page .ensures)))
+    let text = whole _ _ _ _ (joined (at-put .put .ensures) (c .before .before .put-page .ensures)) in
+    let first = named (given .device) (given .cells .now) (given .counts .now) (start .pre .0) (at-count-pages .count-pages .ensures) (at-first-blank .first-blank .ensures) in
+    (text .0, record { blank = at-first-blank .first-blank .result .blank; first = first; says = text .1 })
 
 pub put-room-spec : {M : Type 1} → statement M
 put-room-spec =

@@ -3,6 +3,7 @@ use native.Mathlib.Omega.{arith}
 use mathlib.Core.Path.{sym, ap, _∙_}
 use lib.Seq.{length-take-le}
 use Rattle.rules.specs.declared.Row.{Row}
+use Rattle.rules.specs.Device.{pageCount}
 use Rattle.m95.proofs.Calling.{row-widths}
 use Rattle.rules.proofs.Widths.{room}
 use borrow.Author.Needs.{needs}
@@ -46,12 +47,17 @@ slice-aggregate-ask-lent-3 c =
 
 ask-lent-requires : tie.Need-ask-lent-requires
 ask-lent-requires c κs =
-    let at-row-of = c .before .before .before .before in
+    let at-page-count = c .before .before .before in
+    let at-row-of = at-page-count .before in
     let start = at-row-of .before .before in
     let row = at-row-of .row-of in
+    let pages = at-page-count .page-count .ensures in
     let large = room (start .args .device) (row .ensures) in (
-      length-take-le _ _ (omega (arith, large .0)) ∙ ap (λ (x : Row). x .cells) (row .ensures),
-      length-take-le _ _ (omega (arith, large .2)) ∙ ap (λ (x : Row). x .identification) (row .ensures),
+      (start .pre, length-take-le _ _ (omega (arith, pages, large .3)) ∙ pages ∙ ap pageCount (row .ensures)),
+      (
+        length-take-le _ _ (omega (arith, large .0)) ∙ ap (λ (x : Row). x .cells) (row .ensures),
+        length-take-le _ _ (omega (arith, large .2)) ∙ ap (λ (x : Row). x .identification) (row .ensures),
+      ),
     )
 
 returns : tie.Need-returns

@@ -1,5 +1,7 @@
 -- `playthrough::room::ask_lent` meets its contract.
+use mathlib.Core.Path.{_∙_}
 use Rattle.m95.proofs.Calling.{row-widths}
+use Rattle.playthrough.proofs.Loading.{counting-taken}
 use borrow.Author.Needs.{needs}
 use Rattle.playthrough.proofs.room.ask_lent.Statement.{statement}
 use Rattle.playthrough.proofs.room.ask_lent.Tie as tie
@@ -11,7 +13,7 @@ load-existing-requires : tie.Need-load-existing-requires
 load-existing-requires c κs =
     let start = c .before .before .before .before .before .before .before in
     let row = c .before .before .row-of in
-    (row-widths (start .args .device) (row .result) (row .ensures), rw (row .ensures) (start .pre .0), rw (row .ensures) (start .pre .1))
+    (row-widths (start .args .device) (row .result) (row .ensures), rw (row .ensures) (start .pre .1 .0), rw (row .ensures) (start .pre .1 .1))
 
 is-faulty-requires : tie.Need-is-faulty-requires
 is-faulty-requires c κs = search needs
@@ -41,7 +43,11 @@ returns-2 : tie.Need-returns-2
 returns-2 c = search needs
 
 tell-room-requires : tie.Need-tell-room-requires
-tell-room-requires c κs = search needs
+tell-room-requires c κs =
+    let at-cells = c .before .before .before .before .before .before .before .before .before .before in
+    let start = at-cells .before .before .before .before .before .before .before .before .before in
+    let given = start .pre in
+    counting-taken (start .args .device) _ (start .args .counts .now) (given .0 .0) (at-cells .cells .given ∙ given .1 .0) (given .0 .1)
 
 same-length-5 : tie.Need-same-length-5
 same-length-5 c = search needs

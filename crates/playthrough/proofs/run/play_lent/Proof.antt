@@ -1,6 +1,6 @@
 -- `playthrough::run::play_lent` meets its contract.
 use mathlib.Core.Path.{_∙_}
-use Rattle.playthrough.proofs.Loading.{load-fits, loaded}
+use Rattle.playthrough.proofs.Loading.{load-fits, loaded, storable}
 use borrow.Author.Needs.{needs}
 use Rattle.playthrough.proofs.run.play_lent.Statement.{statement}
 use Rattle.playthrough.proofs.run.play_lent.Tie as tie
@@ -96,7 +96,7 @@ play-loaded-requires c κs =
     let given = start .args in
     let chip = at-load2 .load2 in
     loaded (given .device) (given .cells .now) (given .identification .now) (given .latch .now) (given .counts .now) (start .pre) _ _ _ _ _ _ (at-prepare .prepare .ensures)
-    (at-load .load .result .stored) (chip .result .number) (chip .result .state) (chip .ensures) (judged .is-unstorable .ensures (at-if2 .if2 .left)) _ _ _
+    (at-load .load .result .stored) (chip .result .number) (chip .result .state) (chip .ensures) (storable (judged .is-unstorable .ensures) (at-if2 .if2 .left)) _ _ _
     (at-cells2 .cells2 .given) (at-identification2 .identification2 .given) (at-counts2 .counts2 .given) _ (at-count-pages .count-pages .ensures)
 
 same-length-9 : tie.Need-same-length-9
