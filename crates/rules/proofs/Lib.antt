@@ -22,6 +22,7 @@ pub mod Pieces
 pub mod Preserved
 pub mod Program
 pub mod Protection
+pub mod Filled
 pub mod Counts
 pub mod Room
 pub mod Received

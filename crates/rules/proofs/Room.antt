@@ -14,7 +14,8 @@ use Rattle.rules.specs.Device.{isDevice, rowOf, pageCount}
 use Rattle.rules.specs.Call.{recountedTo, countOutcome, lowest, firstBlank, foundAs, blankOutcome}
 use Rattle.rules.specs.Room.{Lowest, Answers, FirstBlankSays, BlankNumbers, BlankStops, IsBlank, BlankAsRead, CountedAsRead}
 use Rattle.rules.proofs.Choice.{if-elim}
-use Rattle.rules.proofs.Counts.{filled-says, recounted-long, counted-agrees}
+use Rattle.rules.proofs.Counts.{recounted-long, counted-agrees}
+use Rattle.rules.proofs.Filled.{filled-says}
 
 module _ (Holds : ℕ → Type 0) where
   -- Two answers that both name the lowest number are one.

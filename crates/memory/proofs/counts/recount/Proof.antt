@@ -1,6 +1,6 @@
 -- `memory::counts::recount` meets its contract.
 use native.Mathlib.Omega.{arith}
-use Rattle.rules.proofs.Counts.{filled-most}
+use Rattle.rules.proofs.Filled.{filled-most}
 use Rattle.rules.proofs.Widths.{page-room, page-count}
 use borrow.Author.Needs.{needs}
 use Rattle.memory.proofs.counts.recount.Statement.{statement}
