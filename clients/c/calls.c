@@ -344,6 +344,36 @@ static void hold(void) {
     expect(status() == 0x02, "WREN across a hold", status());
 }
 
+/* HOLD falls after the bits of a command, and S rises in hold. */
+static void end_in_hold(void) {
+    set_pin(M95_HOLD, 0);
+    set_pin(M95_S, 1);
+    set_pin(M95_HOLD, 1);
+}
+
+/* Every device drops a WREN that S's rise finds held; a WRITE is started by the two M95128s, 2 and 7, and by no other. */
+static void deselected_in_hold(void) {
+    static const int address_bits[] = {0, 8, 16, 24, 24, 8, 8, 16};
+    for (size_t device = 1; device <= 7; device++) {
+        int starts = device == 2 || device == 7;
+        prepare(device);
+        set_pin(M95_S, 0);
+        bits(0x06, 8);
+        end_in_hold();
+        expect(status() == 0x00, "WREN in hold is dropped", device);
+        COMMAND(0x06);
+        set_pin(M95_S, 0);
+        bits(0x02, 8);
+        bits(0x05, address_bits[device]);
+        bits(0x66, 8);
+        end_in_hold();
+        expect(status() == (starts ? 0x03u : 0x02u), "WRITE in hold starts on devices 2 and 7", device);
+        event(M95_WAIT, 5000);
+        expect(chip.cells[5] == (starts ? 0x66 : 0xFF), "and stores its byte there", device);
+        expect(chip.counts[0] == (starts ? 1 : 0), "which is counted", device);
+    }
+}
+
 static void put_pin(uint8_t *trace, size_t *length, int byte) {
     const uint8_t record[] = {3, 0, M95_SET_PIN, 0, (uint8_t)byte};
     memcpy(trace + *length, record, sizeof record);
@@ -493,6 +523,7 @@ int main(void) {
     examples();
     write_protect();
     hold();
+    deselected_in_hold();
     read_by_trace();
     events();
     traces();

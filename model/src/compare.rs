@@ -19,7 +19,7 @@ use crate::{bench, play, Contents};
 use external::{Files, Program};
 
 /// Records of one trace for `play`, and of one that is refused at its end. All profiles on all devices make a round of
-/// a little less than the 2,000,000 records that the program does if not told otherwise.
+/// a little less than the 2,200,000 records that the program does if not told otherwise.
 const PLAY_RECORDS: usize = 23_000;
 const MALFORMED_RECORDS: usize = 4_000;
 /// Refused traces for each device in a round. Those of `play` take every tail at least once.

@@ -1,5 +1,5 @@
-//! The one table of devices (document 01, "What the bench models"; document 02, W-202 and W-203). Every rule that
-//! differs between devices reads a column of it; none asks which device it is.
+//! The one table of devices (document 01, "What the bench models"; document 02, W-202, W-203 and W-206). Every rule
+//! that differs between devices reads a column of it; none asks which device it is.
 
 /// The block protection bits BP1 and BP0 of the status register.
 pub const BP: u8 = 0b0000_1100;
@@ -29,6 +29,9 @@ pub struct Device {
     /// The row of the service sheet: the first protected address for the block settings 00, 01, 10 and 11, each a
     /// multiple of the page. Where the sheet says "none" it is the number of cells, which no address reaches.
     pub sheet: [usize; 4],
+    /// Whether deselecting in hold starts a write whose bytes are all in; elsewhere it drops every command (document
+    /// 02, W-206).
+    pub writes_in_hold: bool,
 }
 
 /// The table itself, in the order of the device numbers.
@@ -44,6 +47,7 @@ pub const DEVICES: [Device; 7] = [
         identification: 16,
         identification_code: &[],
         sheet: [0x200, 0x180, 0x100, 0],
+        writes_in_hold: false,
     },
     Device {
         number: 2,
@@ -56,6 +60,7 @@ pub const DEVICES: [Device; 7] = [
         identification: 64,
         identification_code: &[],
         sheet: [0x4000, 0x3000, 0x2000, 0],
+        writes_in_hold: true,
     },
     Device {
         number: 3,
@@ -68,6 +73,7 @@ pub const DEVICES: [Device; 7] = [
         identification: 256,
         identification_code: &[],
         sheet: [0x20000, 0x18000, 0x10000, 0],
+        writes_in_hold: false,
     },
     Device {
         number: 4,
@@ -80,6 +86,7 @@ pub const DEVICES: [Device; 7] = [
         identification: 256,
         identification_code: &IDENTIFICATION_CODE,
         sheet: [0x40000, 0x30000, 0x20000, 0],
+        writes_in_hold: false,
     },
     Device {
         number: 5,
@@ -92,6 +99,7 @@ pub const DEVICES: [Device; 7] = [
         identification: 0,
         identification_code: &[],
         sheet: [0x80, 0x60, 0x40, 0],
+        writes_in_hold: false,
     },
     Device {
         number: 6,
@@ -104,6 +112,7 @@ pub const DEVICES: [Device; 7] = [
         identification: 0,
         identification_code: &[],
         sheet: [0x100, 0xC0, 0x80, 0],
+        writes_in_hold: false,
     },
     Device {
         number: 7,
@@ -116,6 +125,7 @@ pub const DEVICES: [Device; 7] = [
         identification: 0,
         identification_code: &[],
         sheet: [0x4000, 0x3000, 0x2000, 0],
+        writes_in_hold: true,
     },
 ];
 

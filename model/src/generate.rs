@@ -26,7 +26,7 @@ pub use blanks::{blank_chips, blanks, Blank, BlankChip};
 use commands::Maker;
 pub use counts::{counts, lendings, Counting, Left, Lending};
 pub use inputs::{bench_input, odd_bench_input, ODD_BENCH_INPUTS};
-pub use made::{made_events, sheet_events};
+pub use made::{held_events, made_events, sheet_events};
 pub use malformed::{tail, TAILS};
 pub use random::Random;
 pub use states::{loads, states, INSTRUCTIONS};
@@ -55,10 +55,13 @@ pub enum Profile {
     Mixed,
     /// A mixed trace with a record at its end that is refused.
     Malformed,
+    /// Commands that S's rise finds held. It came with request W-206 of document 02 and so stands last: the traces of
+    /// the others, mixed ones too, are those of before.
+    Held,
 }
 
 impl Profile {
-    pub const ALL: [Profile; 10] = [
+    pub const ALL: [Profile; 11] = [
         Profile::Commands,
         Profile::Lengths,
         Profile::Protect,
@@ -69,7 +72,11 @@ impl Profile {
         Profile::Noise,
         Profile::Mixed,
         Profile::Malformed,
+        Profile::Held,
     ];
+
+    /// Those that have a file of stored vectors. For the last one some made by hand stand in the files of the others.
+    pub const STORED: &'static [Profile] = Profile::ALL.split_at(Profile::Held as usize).0;
 
     pub fn name(self) -> &'static str {
         match self {
@@ -83,6 +90,7 @@ impl Profile {
             Profile::Noise => "noise",
             Profile::Mixed => "mixed",
             Profile::Malformed => "malformed",
+            Profile::Held => "held",
         }
     }
 

@@ -1,6 +1,6 @@
 //! A plain model of seven M95 serial memories as seen from their pins.
 //!
-//! It is written from document 01, requests W-201 to W-205 of document 02 and the settled readings alone, so that it can
+//! It is written from document 01, requests W-201 to W-206 of document 02 and the settled readings alone, so that it can
 //! stand beside another implementation and be compared with it by running. Names are those of document 01; comments
 //! point to it by heading.
 

@@ -9,6 +9,7 @@ mod blank;
 mod codes;
 mod counts;
 mod edges;
+mod held;
 mod judging;
 mod records;
 mod sending;
@@ -65,7 +66,8 @@ pub(crate) fn run_wrongly(
     if fault == Fault::None {
         return run_records(&mut chip, trace, answers, limit);
     }
-    if let Some(row) = sheet::wrong_row(fault, chip.device) {
+    let wrong_row = sheet::wrong_row(fault, chip.device);
+    if let Some(row) = wrong_row.or_else(|| held::wrong_row(fault, chip.device)) {
         let mut chip = Chip {
             device: &row,
             ..chip
@@ -108,6 +110,7 @@ struct Mistaken<'a> {
     marks_before: Vec<u8>,
     /// The count of the cycle's page before a wait.
     count_before: u16,
+    held: held::Memory,
 }
 
 /// What an event is for the selection.
@@ -144,6 +147,7 @@ impl<'a> Mistaken<'a> {
             data_before: Vec::new(),
             marks_before: Vec::new(),
             count_before: 0,
+            held: held::Memory::new(),
         }
     }
 
@@ -166,6 +170,10 @@ impl<'a> Mistaken<'a> {
         let event = self.before_edge(event);
         let was = self.chip.state.clone();
         let moment = moment(&was, event);
+        let named = self.fault;
+        if moment == Moment::SelectRise {
+            self.fault = self.made_at_select_rise();
+        }
         match moment {
             Moment::Rise => self.before_rise(),
             Moment::Fall => self.before_fall(),
@@ -180,7 +188,9 @@ impl<'a> Mistaken<'a> {
             Moment::SelectFall => self.after_select_fall(&was),
             Moment::Other => self.after_other(event, &was),
         }
+        self.fault = named;
         self.after_any(event, &first);
+        self.after_any_in_hold(event, &first);
         match self.fault {
             Fault::HoldShowsOutput => self.chip.state.output,
             _ => self.chip.state.answer(),

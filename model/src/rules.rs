@@ -1,4 +1,5 @@
-//! The rules: what each event does to a device (document 01, "Events" and "Instructions"; document 02, W-204).
+//! The rules: what each event does to a device (document 01, "Events" and "Instructions"; document 02, W-204 and
+//! W-206).
 
 use crate::count::page_count;
 use crate::device::{Device, BP, SRWD};
@@ -114,12 +115,23 @@ impl Chip<'_> {
     }
 
     /// A paused command is dropped, by the stored flag and not by the level of HOLD ("Events", Deselected while
-    /// held).
+    /// held), unless it is one that hold cannot stop any more. That one is judged as out of hold: there is no second
+    /// judgement that could ask for more or less.
     pub fn select_rises(&mut self) {
-        if !self.state.held {
+        if !self.state.held || self.outlasts_hold() {
             self.judge();
         }
         self.deselect();
+    }
+
+    /// Whether this is a write to the array, the identification page or the lock, on a device that does not drop these
+    /// in hold. WRSR is none of them (document 02, W-206).
+    pub fn outlasts_hold(&self) -> bool {
+        let writes = matches!(
+            self.state.instruction,
+            Instruction::Write | Instruction::Wrid | Instruction::Lid
+        );
+        writes && self.device.writes_in_hold
     }
 
     pub fn deselect(&mut self) {

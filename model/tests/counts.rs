@@ -778,7 +778,8 @@ fn chosen_counts_meet_a_running_cycle() {
 #[test]
 fn generated_traces_are_those_of_before() {
     let mut sum = 0u64;
-    for (profile, row) in all_profiles() {
+    // Those with stored vectors are those that there were before.
+    for (profile, row) in all_profiles().filter(|(one, _)| Profile::STORED.contains(one)) {
         for byte in trace(profile, row, 77, 2000) {
             sum = (sum ^ u64::from(byte)).wrapping_mul(0x0100_0000_01B3);
         }

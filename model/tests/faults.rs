@@ -349,6 +349,19 @@ fn write_of(row: &Device, data: &[u8]) -> Vec<u8> {
     [&bytes, data].concat()
 }
 
+/// The same trace with HOLD low at the rise of S that ends the command.
+fn held(row: &Device, bytes: &[u8]) -> Vec<u8> {
+    let mut trace = written(row, bytes);
+    let mut end = trace.split_off(trace.len() - DESELECTED - WAITED);
+    append_record(&mut trace, Event::Hold(false));
+    trace.append(&mut end);
+    trace
+}
+
+/// Bytes of the last two records of `written`.
+const DESELECTED: usize = 5;
+const WAITED: usize = 8;
+
 /// A trace of WREN and this command, then a full wait.
 fn written(row: &Device, bytes: &[u8]) -> Vec<u8> {
     let mut trace = Vec::new();
@@ -372,19 +385,22 @@ fn starting(row: &Device, cycle: Cycle) -> Option<Vec<u8>> {
     Some([0x82].into_iter().chain(address).chain([0x02]).collect())
 }
 
+/// The faults that every array cycle shows which fills a cell.
+const COUNTS_CHANGED: [Fault; 3] = [
+    Fault::CountOfBlankCells,
+    Fault::CountTestedAfterChange,
+    Fault::CountLeftAtCycleEnd,
+];
+
 /// Traces from a prepared chip with the faults of counts that each must show, and no others.
 fn traces_of_counts(row: &Device) -> Vec<(Vec<u8>, Vec<Fault>)> {
-    let changed = vec![
-        Fault::CountOfBlankCells,
-        Fault::CountTestedAfterChange,
-        Fault::CountLeftAtCycleEnd,
-    ];
+    let changed = COUNTS_CHANGED.to_vec();
     let with = |other| [changed.clone(), vec![other]].concat();
     let byte = written(row, &write_of(row, &[0x5A]));
     let mut power = byte.clone();
     append_record(&mut power, Event::Power);
     let mut in_cycle = byte.clone();
-    in_cycle.truncate(byte.len() - 8);
+    in_cycle.truncate(byte.len() - WAITED);
     let blank = vec![Fault::CountOfBlankCells, Fault::CountAddsMarkedBytes];
     let full = match row.page {
         256 => with(Fault::CountInByte),
@@ -410,6 +426,10 @@ fn traces_of_counts(row: &Device) -> Vec<(Vec<u8>, Vec<Fault>)> {
         let expected = vec![Fault::CountSetByIdentificationCycle];
         traces.push((written(row, &bytes), expected));
     }
+    let of_held = with(Fault::CountLeftByHeldWrite);
+    let starts = row.writes_in_hold;
+    let shown = of_held.into_iter().filter(|_| starts).collect();
+    traces.push((held(row, &write_of(row, &[0x5A])), shown));
     traces
 }
 
@@ -800,5 +820,114 @@ fn a_blank_page_is_wrong_at_the_place_of_its_fault_and_nowhere_else() {
             let expected = has_place_of_blank(fault, row);
             assert_eq!(noticed.contains(&fault), expected, "{fault:?} {}", row.name);
         }
+    }
+}
+
+/// Whether a fault is one about a command that S's rise finds held, by its name.
+fn is_of_held(fault: Fault) -> bool {
+    let name = format!("{fault:?}");
+    ["Held", "HoldPin"]
+        .iter()
+        .any(|start| name.starts_with(start))
+}
+
+/// Whether such a fault is one of all devices and not only of those that let a write start in hold.
+fn is_of_every_device(fault: Fault) -> bool {
+    matches!(
+        fault,
+        Fault::HeldCommandJudged
+            | Fault::HeldWithHoldHighJudged
+            | Fault::HoldPinDropsCommand
+            | Fault::HeldDeselectClearsWel
+            | Fault::HeldDeselectEndsCycle
+    )
+}
+
+/// Whether the fault makes anything else of this trace than the right model does, counts and latch included.
+fn differs(fault: Fault, row: &'static Device, trace: &[u8]) -> bool {
+    let (mut first, mut second) = (Contents::prepared(row), Contents::prepared(row));
+    let right = play(row, &mut first, trace);
+    let wrong = play_wrongly(fault, row, &mut second, trace, usize::MAX, usize::MAX);
+    (right, first) != (wrong, second)
+}
+
+#[test]
+fn a_held_command_is_judged_wrongly_in_hold_and_where_writes_start_there() {
+    let faults: Vec<Fault> = Fault::ALL
+        .iter()
+        .copied()
+        .filter(|one| is_of_held(*one))
+        .collect();
+    for row in &DEVICES {
+        // Nothing is ever held in the first two.
+        let unheld = [Profile::Commands, Profile::Lengths].map(|one| trace(one, row, 13, 6_000));
+        let held = trace(Profile::Held, row, 13, 6_000);
+        for &fault in &faults {
+            let asked = format!("{fault:?} {}", row.name);
+            assert!(
+                !unheld.iter().any(|trace| differs(fault, row, trace)),
+                "{asked}"
+            );
+            let elsewhere = !row.writes_in_hold && !is_of_every_device(fault);
+            assert!(!(elsewhere && differs(fault, row, &held)), "{asked}");
+        }
+    }
+}
+
+/// What a fault makes of a command with WEL set: these bits of it are received, these events come, S rises and HOLD
+/// goes high.
+fn noticed_after(row: &'static Device, bytes: &[u8], bits: usize, ending: &[Event]) -> Vec<Fault> {
+    let mut trace = Vec::new();
+    send(&mut trace, &[0x06]);
+    append_record(&mut trace, Event::Select(false));
+    for place in 0..bits {
+        let level = bytes[place / 8] << (place % 8) & 0x80 != 0;
+        append_record(&mut trace, Event::Data(level));
+        append_record(&mut trace, Event::Clock(true));
+        append_record(&mut trace, Event::Clock(false));
+    }
+    for &event in ending {
+        append_record(&mut trace, event);
+    }
+    append_record(&mut trace, Event::Select(true));
+    append_record(&mut trace, Event::Hold(true));
+    let faults = Fault::ALL.iter().copied().filter(|one| is_of_held(*one));
+    faults
+        .filter(|fault| differs(*fault, row, &trace))
+        .collect()
+}
+
+/// The faults that a complete WRITE to the first page shows when it starts its cycle in hold, whichever way it is held.
+const OF_HELD_WRITE: [Fault; 5] = [
+    Fault::HeldCommandDropped,
+    Fault::HeldWriteDropped,
+    Fault::HeldWriteDoneAtOnce,
+    Fault::HeldWriteWritesNothing,
+    Fault::HeldDeselectClearsWel,
+];
+
+#[test]
+fn a_held_write_shows_its_faults_and_no_others() {
+    let (low, rise, fall) = (Event::Hold(false), Event::Clock(true), Event::Clock(false));
+    let ways: [(&[Event], &[Fault]); 3] = [
+        (&[low], &[]),
+        (&[low, rise, fall], &[Fault::HeldClockSpoilsWrite]),
+        (
+            &[low, rise],
+            &[Fault::HeldWriteNeedsClockLow, Fault::HeldClockSpoilsWrite],
+        ),
+    ];
+    for row in DEVICES.iter().filter(|row| row.writes_in_hold) {
+        let bytes = write_at(row, 0);
+        for (way, more) in ways {
+            let mut noticed = noticed_after(row, &bytes, 32, way);
+            let mut expected = [&OF_HELD_WRITE[..], more].concat();
+            noticed.sort_unstable_by_key(|fault| *fault as usize);
+            expected.sort_unstable_by_key(|fault| *fault as usize);
+            assert_eq!(noticed, expected, "{} {way:?}", row.name);
+        }
+        let cut = noticed_after(row, &bytes, 31, &[low]);
+        let expected = [Fault::HeldCutByteCounts, Fault::HeldDeselectClearsWel];
+        assert_eq!(cut, expected, "{}", row.name);
     }
 }

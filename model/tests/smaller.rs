@@ -3,7 +3,7 @@
 
 mod common;
 
-use common::{Board, FALL, RISE};
+use common::Board;
 use m95_model::generate::{events, states, view_bytes, Profile};
 use m95_model::{
     bench, device, event, is_sound, load, prepare, run, view, Cycle, Event, Instruction, Number,
@@ -517,26 +517,7 @@ fn no_trace_locks() {
     }
 }
 
-// 202.8: deselected in hold, also by the flag alone; WREN is among the tests of all devices.
-#[test]
-fn device_7_drops_a_write_that_is_deselected_in_hold() {
-    let hold_low = Event::Hold(false);
-    for held in [&[hold_low][..], &[hold_low, RISE, Event::Hold(true)]] {
-        let mut board = Board::new(7);
-        board.command(&[0x06]);
-        board.select();
-        board.bytes(&[0x02, 0x00, 0x00, 0x42]);
-        for &happening in held {
-            board.set(happening);
-        }
-        board.deselect();
-        board.set(Event::Hold(true));
-        board.set(FALL);
-        assert_eq!(board.status(), 0x02);
-        board.wait(5000);
-        assert_eq!(board.cells[0], 0xFF);
-    }
-}
+// 202.8 held until W-206; what device 7 does with a write that is deselected in hold is among the tests of that request.
 
 // 202.9: what the columns say.
 #[test]

@@ -11,11 +11,18 @@ use common::Board;
 use m95_model::generate::Profile;
 use m95_model::{append_record, device, Cycle, Event, Fault, Vector};
 
-/// How many vectors each file had before there were some about the service sheet, in the order of the profiles, and
-/// what these are together.
-const EARLIER: [usize; 10] = [71, 50, 59, 41, 72, 65, 49, 41, 60, 104];
-const EARLIER_BYTES: usize = 994_140;
-const EARLIER_SUM: u64 = 0x9653_34FB_2D66_F320;
+/// How many vectors each file had before there were some about held commands (document 02, W-206), in the order of the
+/// profiles, and what these were together before a write could start in hold.
+const EARLIER: [usize; 10] = [71, 50, 73, 41, 72, 65, 49, 41, 60, 104];
+const EARLIER_BYTES: usize = 1_015_112;
+const EARLIER_SUM: u64 = 0xE840_434D_A066_ECDA;
+
+/// Those of them in which a write starts in hold.
+const MOVED: [(Profile, usize); 3] = [
+    (Profile::Hold, 71),
+    (Profile::Mixed, 8),
+    (Profile::Mixed, 39),
+];
 
 /// The files of `store` in a directory of the test's own.
 fn store(name: &str) -> PathBuf {
@@ -39,7 +46,7 @@ fn stored() -> &'static Path {
 fn all_vectors_are_read_back_and_replayed() {
     let directory = stored();
     let (mut size, mut count) = (0, 0);
-    for profile in Profile::ALL {
+    for &profile in Profile::STORED {
         let file = fs::read(directory.join(profile.name())).expect("a file");
         let vectors = Vector::read_all(&file).expect("whole vectors");
         let mut again = Vec::new();
@@ -70,26 +77,32 @@ fn all_vectors_are_read_back_and_replayed() {
 fn stored_files_are_those_of_today() {
     let kept = Path::new(env!("CARGO_MANIFEST_DIR")).join("../crates/vectors/data");
     let written = stored();
-    for profile in Profile::ALL {
+    for &profile in Profile::STORED {
         let read = |directory: &Path| fs::read(directory.join(profile.name())).expect("a file");
         assert!(read(&kept) == read(written), "{}", profile.name());
     }
 }
 
 /// Another implementation may name a vector by its place in a file, and the traces of a device by their seeds. So all
-/// that were there stay first in each file, byte for byte.
+/// that were there stay first in each file, byte for byte, but for what a write that starts in hold makes of a few: with
+/// such writes dropped again they too are what they were.
 #[test]
-fn earlier_vectors_stay_first_and_as_they_were() {
+fn earlier_vectors_stay_first_and_move_only_by_held_writes() {
     let directory = stored();
-    let mut bytes = Vec::new();
-    for (profile, count) in Profile::ALL.into_iter().zip(EARLIER) {
+    let (mut bytes, mut moved) = (Vec::new(), Vec::new());
+    for (&profile, count) in Profile::STORED.iter().zip(EARLIER) {
         let file = fs::read(directory.join(profile.name())).expect("a file");
         let vectors = Vector::read_all(&file).expect("whole vectors");
-        let earlier = vectors[..count].iter();
-        earlier.for_each(|vector| vector.append_to(&mut bytes));
+        for (index, vector) in vectors[..count].iter().enumerate() {
+            let row = device(vector.device).expect("a device of the table");
+            let before = Vector::of(Fault::HeldCommandDropped, row, &vector.trace);
+            before.append_to(&mut bytes);
+            moved.extend((before != *vector).then_some((profile, index)));
+        }
     }
     assert_eq!(bytes.len(), EARLIER_BYTES);
     assert_eq!(sum(&bytes), EARLIER_SUM);
+    assert_eq!(moved, MOVED);
 }
 
 /// FNV-1a of 64 bits.
@@ -102,7 +115,7 @@ fn sum(bytes: &[u8]) -> u64 {
 #[test]
 fn same_files_each_time() {
     let (first, second) = (stored(), store("second"));
-    for profile in Profile::ALL {
+    for &profile in Profile::STORED {
         let read = |directory: &Path| fs::read(directory.join(profile.name())).expect("a file");
         assert_eq!(read(first), read(&second), "{}", profile.name());
     }
@@ -138,7 +151,7 @@ fn pages_written(vector: &Vector) -> Vec<usize> {
 #[test]
 fn no_vector_writes_to_a_page_twice() {
     let mut written = 0;
-    for profile in Profile::ALL {
+    for &profile in Profile::STORED {
         let file = fs::read(stored().join(profile.name())).expect("a file");
         for vector in Vector::read_all(&file).expect("whole vectors") {
             let mut pages = pages_written(&vector);

@@ -10,8 +10,13 @@ use m95_model::generate::{
 use m95_model::{Device, Event, Fault, Output, DEVICES};
 use proved::{kind, pin, refused, STATE_BYTES};
 
-/// Profiles in which many cycles end.
-const PROFILES: [Profile; 3] = [Profile::Commands, Profile::Waits, Profile::Mixed];
+/// Profiles in which many cycles end, some of them begun in hold.
+const PROFILES: [Profile; 4] = [
+    Profile::Commands,
+    Profile::Waits,
+    Profile::Mixed,
+    Profile::Held,
+];
 const EVENTS: usize = 5_000;
 
 /// Lends both counts that stand so to the cells.
@@ -105,9 +110,11 @@ fn plays() -> impl Iterator<Item = (Counting, &'static Device, Profile)> {
     Counting::ALL.into_iter().flat_map(of_counting)
 }
 
-/// A fault of counts that events show; the others are those of lent lengths and of a file.
+/// A fault of counts that single events show; the others are those of lent lengths, of a file, and of how a cycle began, which no state
+/// remembers.
 fn is_of_events(fault: Fault) -> bool {
-    fault.is_of_count() && !fault.is_of_lent() && fault != Fault::CountOfFileIsBlank
+    let others = [Fault::CountOfFileIsBlank, Fault::CountLeftByHeldWrite];
+    fault.is_of_count() && !fault.is_of_lent() && !others.contains(&fault)
 }
 
 /// The same traces would tell the library from a model that is wrong about counts in a named way.

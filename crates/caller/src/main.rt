@@ -2,8 +2,10 @@
 // alone, so a caller who knows nothing else can use them.
 
 use rules::Blank;
+use rules::Command;
 use rules::Cycle;
 use rules::Event;
+use rules::Instruction;
 use rules::Kind;
 use rules::Region;
 use rules::Stored;
@@ -187,6 +189,38 @@ fn refuses_a_wrong_count() {
     check::expect(counts[0] == 1);
 }
 
+// S rises on a device in hold that has taken a whole WRITE: an M95128-D starts its cycle, and RDSR would send WIP and WEL.
+fn writes_in_hold() {
+    let mut cells = [0xFFu8; 16384];
+    let mut identification = [0xFFu8; 64];
+    let mut latch = [0u8; 128];
+    let mut counts = [0u16; 256];
+    let mut state = m95::prepared_state();
+    let command = Command {
+        instruction: Instruction::Write,
+        away: false,
+    };
+    state.command = command;
+    state.pins.s = false;
+    state.pins.hold = false;
+    state.selection.selected = true;
+    state.selection.held = true;
+    state.input.bytes = 4;
+    state.registers.wel = true;
+    let reply = m95::event(
+        2,
+        state,
+        &mut cells,
+        &mut identification,
+        &mut latch,
+        &mut counts,
+        Event::Select(true),
+    );
+    check::expect(reply.number == 0);
+    let status = m95::status_byte(reply.state);
+    check::expect(status == 3);
+}
+
 // A trace of one record on a prepared device, and on none.
 fn runs() {
     let mut cells = [0xFFu8; 512];
@@ -274,5 +308,6 @@ fn main() {
     views_identification();
     replies();
     refuses_a_wrong_count();
+    writes_in_hold();
     runs();
 }

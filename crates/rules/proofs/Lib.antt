@@ -3,6 +3,7 @@ pub mod Opened
 pub mod Examples
 pub mod Readings
 pub mod Smaller
+pub mod HeldLines
 pub mod PrepareLines
 pub mod EventLines
 pub mod RunLines
@@ -13,8 +14,10 @@ pub mod Unsound
 pub mod Printed
 pub mod Choice
 pub mod Encoded
+pub mod Held
 pub mod Incident
 pub mod Inside
+pub mod Judged
 pub mod Latch
 pub mod Loaded
 pub mod Lookalike

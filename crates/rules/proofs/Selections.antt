@@ -7,15 +7,16 @@ use native.Mathlib.Omega.{arith}
 use lib.ListN.{length}
 use lib.Dec.{eqb}
 use borrow.Author.Tests.{eqb-true, ne-eqb, le-ltb}
-use Rattle.rules.specs.World.{Row, Kind, Level, Event, State, World, if_then_else_, withPins, withSelection, withState, withLatch}
+use Rattle.rules.specs.World.{Row, Kind, Level, Event, State, World, withPins, withSelection, withState, withLatch}
 use Rattle.rules.specs.Device.{Widths}
 use Rattle.rules.specs.Instruction.{facts, holdsLatch}
-use Rattle.rules.specs.Judge.{allows, isWhole, isDone, judged}
+use Rattle.rules.specs.Judge.{allows, isWhole, isDropped, isDone, judged}
 use Rattle.rules.specs.Event.{pinsAfter, selected, deselected, refusal, react, settled, step, next, after}
 use Rattle.rules.specs.Sound.{Unsettled, Sound, Lent}
 use Rattle.rules.specs.Selections.{Visible, sights, Broken, Cut, done, keep, drop, heard, heardLeft, Demand3}
 use Rattle.rules.specs.Recorded.{fits, runnable}
 use Rattle.rules.proofs.Choice.{if-yes, and-left, and-right, and-both, and-then, or-left}
+use Rattle.rules.proofs.Judged.{judged-none, rises}
 use Rattle.rules.proofs.Latch.{Agree}
 use Rattle.rules.proofs.Preserved.{pinned, next-sound, after-sound}
 use Rattle.rules.proofs.Same.{Left, idle, commandUses, Same, same, off, contents-same, refusal-same, next-same, visible-same}
@@ -42,16 +43,15 @@ module _ (row : Row) (s : State) where
   unfolding isDone
   undone f = go (isWhole s) refl
     where
-      open-ended : Bool
-      open-ended = not (s .selection .held) && not (s .command .away)
+      kept : Bool
+      kept = not (isDropped row s)
 
-      go : (t : Bool) → isWhole s ≡ t → (open-ended && t && allows row s (facts (s .command .instruction) .starts)) ≡ false
-      go true e = rw (allows-none (f (whole-bits e)) (facts (s .command .instruction) .starts)) (and-false (open-ended && true))
-      go false e = rw (and-false open-ended)
+      let-in : Bool
+      let-in = not (s .command .away)
 
-  judged-none : isDone row s ≡ false → judged row s ≡ s
-  unfolding judged
-  judged-none e = rw e
+      go : (t : Bool) → isWhole s ≡ t → (kept && (let-in && t && allows row s (facts (s .command .instruction) .starts))) ≡ false
+      go true e = rw (allows-none (f (whole-bits e)) (facts (s .command .instruction) .starts), and-false (let-in && true)) (and-false kept)
+      go false e = rw (and-false let-in) (and-false kept)
 
 -- What a state leaves behind once it is deselected.
 abbrev leftOf : State → Left
@@ -59,15 +59,12 @@ leftOf s = record { address = s .place .address; seen = s .selection .seen; last
 
 -- The end of the selection.
 end-in : {row : Row} {n : ℕ} {w t : World} → Unsettled row w → Broken n → In row n w t → Same row (next row (Event.Select true) w) t
-unfolding next step react
 end-in {row} {n} k b (twin w l y m on c h) =
     let s = w .state in
     let p = pinsAfter (Event.Select true) (s .pins) in
     let none : judged row s ≡ s = judged-none row s (undone row s (λ e. c .bytes (b (c .bits ∙ e)))) in
-    let ends : (if s .selection .selected && not (s .pins .s) then deselected (judged row s) else s) ≡ deselected s =
-    if-yes (s .selection .selected && not (s .pins .s)) (deselected (judged row s)) s (and-both (s .selection .selected) (not (s .pins .s)) on (ap not (k .low on))) ∙ ap deselected none in
-    subst (λ (x : State). Same row (withState (settled (withPins p x)) w) (withLatch l (withState (idle y (withPins p s)) w))) (sym ends)
-    (off (pinned (Event.Select true) w) l (leftOf s) y m h)
+    let ends = rises row w on (k .low on) ∙ ap (λ (x : State). withState (withPins p (deselected x)) w) none in
+    subst (λ (x : World). Same row x (withLatch l (withState (idle y (withPins p s)) w))) (sym ends) (off (pinned (Event.Select true) w) l (leftOf s) y m h)
 
 -- A sound state that is deselected is an idle one.
 module _ (s : State) where

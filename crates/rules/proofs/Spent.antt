@@ -8,11 +8,12 @@ use Rattle.rules.specs.declared.Filler.{Filler}
 use Rattle.rules.specs.World.{Row, Kind, Source, Event, State, World, if_then_else_, withPins, withState}
 use Rattle.rules.specs.Instruction.{facts, changes}
 use Rattle.rules.specs.Send.{byteOf, shownAddress, outputAfter, fallen}
-use Rattle.rules.specs.Judge.{storable, allows, isWhole, isDone, startOf, judged}
+use Rattle.rules.specs.Judge.{storable, isWhole, isDropped, isDone, startOf, judged}
 use Rattle.rules.specs.Cycle.{ends, written, isMiscounted, recounted, waitedState, waited}
 use Rattle.rules.specs.Event.{pinsAfter, selected, deselected, answer, refusal, react, settled, step, next}
 use Rattle.rules.specs.Selections.{Visible, contents, visible, sights}
 use Rattle.rules.proofs.Choice.{if-elim, if-both, clash}
+use Rattle.rules.proofs.Judged.{allows-alike}
 use Rattle.rules.proofs.Opened.{opened}
 
 -- A world with another page start, other new bits and another filler.
@@ -55,17 +56,11 @@ begun-start row s start new f Kind.Status e = clash (sym e)
 begun-start row s start new f Kind.Lock e = clash (sym e)
 
 -- What S's rise decides, and the byte that is sent, do not hang on them either.
-allows-worn : (row : Row) (s : State) (start new : ℕ) (f : Filler) (k : Kind) → allows row (worn start new f s) k ≡ allows row s k
-unfolding opened
-allows-worn row s start new f Kind.None = refl
-allows-worn row s start new f Kind.Array = refl
-allows-worn row s start new f Kind.Identification = refl
-allows-worn row s start new f Kind.Status = refl
-allows-worn row s start new f Kind.Lock = refl
-
 done-worn : (row : Row) (s : State) (start new : ℕ) (f : Filler) → isDone row (worn start new f s) ≡ isDone row s
 unfolding isDone isWhole
-done-worn row s start new f = ap (λ (b : Bool). not (s .selection .held) && not (s .command .away) && isWhole s && b) (allows-worn row s start new f (facts (s .command .instruction) .starts))
+done-worn row s start new f =
+    ap (λ (b : Bool). not (isDropped row s) && (not (s .command .away) && isWhole s && b))
+    (allows-alike row (worn start new f s) s refl refl refl refl (facts (s .command .instruction) .starts))
 
 byte-worn : (s : State) (start new : ℕ) (f : Filler) (cells identification : List ℕ) (x : Source) (a : ℕ) → byteOf (worn start new f s) cells identification x a ≡ byteOf s cells identification x a
 byte-worn s start new f cells identification Source.Silent a = refl

@@ -8,27 +8,27 @@ abbrev pub from : ℕ → ℕ → ℕ → ℕ → Sheet
 from a b c d = record { bp00 = a; bp01 = b; bp10 = c; bp11 = d }
 
 -- 01, "What the bench models", and W-202: one row for each device. `identification`: how long the identification page is, 0 where there is
--- none. `coded`: ST's code stands at its start.
+-- none. `coded`: ST's code stands at its start. `triggers`, with W-206: deselecting in hold starts a complete write (002, 5.3, footnote b).
 abbrev pub m95040 : Row
-m95040 = record { cells = 512; page = 16; identification = 16; width = 1; time = 5000; srwd = false; coded = false; sheet = from 0x200 0x180 0x100 0 }
+m95040 = record { cells = 512; page = 16; identification = 16; width = 1; time = 5000; srwd = false; coded = false; triggers = false; sheet = from 0x200 0x180 0x100 0 }
 
 abbrev pub m95128d : Row
-m95128d = record { cells = 16_384; page = 64; identification = 64; width = 2; time = 5000; srwd = true; coded = false; sheet = from 0x4000 0x3000 0x2000 0 }
+m95128d = record { cells = 16_384; page = 64; identification = 64; width = 2; time = 5000; srwd = true; coded = false; triggers = true; sheet = from 0x4000 0x3000 0x2000 0 }
 
 abbrev pub m95m01 : Row
-m95m01 = record { cells = 131_072; page = 256; identification = 256; width = 3; time = 4000; srwd = true; coded = false; sheet = from 0x20000 0x18000 0x10000 0 }
+m95m01 = record { cells = 131_072; page = 256; identification = 256; width = 3; time = 4000; srwd = true; coded = false; triggers = false; sheet = from 0x20000 0x18000 0x10000 0 }
 
 abbrev pub m95m02 : Row
-m95m02 = record { cells = 262_144; page = 256; identification = 256; width = 3; time = 5000; srwd = true; coded = true; sheet = from 0x40000 0x30000 0x20000 0 }
+m95m02 = record { cells = 262_144; page = 256; identification = 256; width = 3; time = 5000; srwd = true; coded = true; triggers = false; sheet = from 0x40000 0x30000 0x20000 0 }
 
 abbrev pub m95010 : Row
-m95010 = record { cells = 128; page = 16; identification = 0; width = 1; time = 5000; srwd = false; coded = false; sheet = from 0x80 0x60 0x40 0 }
+m95010 = record { cells = 128; page = 16; identification = 0; width = 1; time = 5000; srwd = false; coded = false; triggers = false; sheet = from 0x80 0x60 0x40 0 }
 
 abbrev pub m95020 : Row
-m95020 = record { cells = 256; page = 16; identification = 0; width = 1; time = 5000; srwd = false; coded = false; sheet = from 0x100 0xC0 0x80 0 }
+m95020 = record { cells = 256; page = 16; identification = 0; width = 1; time = 5000; srwd = false; coded = false; triggers = false; sheet = from 0x100 0xC0 0x80 0 }
 
 abbrev pub m95128 : Row
-m95128 = record { cells = 16_384; page = 64; identification = 0; width = 2; time = 5000; srwd = true; coded = false; sheet = from 0x4000 0x3000 0x2000 0 }
+m95128 = record { cells = 16_384; page = 64; identification = 0; width = 2; time = 5000; srwd = true; coded = false; triggers = true; sheet = from 0x4000 0x3000 0x2000 0 }
 
 abbrev pub table : List Row
 table = m95040 ∷ m95128d ∷ m95m01 ∷ m95m02 ∷ m95010 ∷ m95020 ∷ m95128 ∷ []

@@ -53,6 +53,10 @@ changes Kind.Lock = changeOf true false false false true
 abbrev pub busy : State → Bool
 busy s = changes (s .cycle .kind) .runs
 
+-- A write, as 002 has the word: a code and an address, then data, and a cycle. WRITE, WRID and LID; WRSR has no address.
+abbrev pub isWrite : Instruction → Bool
+isWrite i = facts i .addressed && changes (facts i .starts) .runs
+
 -- A cycle that writes bytes holds the latch; WRITE and WRID, that start one, take their data through it.
 abbrev pub holdsLatch : Kind → Bool
 holdsLatch k = changes k .cells || changes k .identification

@@ -1,7 +1,7 @@
 -- 01, "Instructions", what the rise of S decides: whether a command has all that it asks for, and what then starts.
 use Rattle.rules.specs.World.{ℕ, _+_, _-_, _*_, _/_, _%_, Bool, not, _&&_, _||_, eqb, leb, ltb, if_then_else_, bit, number, Row, Kind, State, withStored}
 use Rattle.rules.specs.Device.{single, firstProtected}
-use Rattle.rules.specs.Instruction.{facts, changes}
+use Rattle.rules.specs.Instruction.{facts, changes, isWrite}
 
 -- The status bits that a device has: 3 and 2, and 7 where there is SRWD. These of a data byte are stored.
 abbrev pub storable : Row → ℕ → ℕ
@@ -36,9 +36,17 @@ allows row s Kind.Lock =
 unfoldable pub isWhole : State → Bool
 isWhole s = eqb (s .input .bits) 0
 
--- Done: not dropped in hold, not turned away, whole bytes, and what the command asks for.
+-- Complete: not turned away, whole bytes, and what the command asks for.
+abbrev pub isComplete : Row → State → Bool
+isComplete row s = not (s .command .away) && isWhole s && allows row s (facts (s .command .instruction) .starts)
+
+-- In hold a command is dropped; with W-206 a write is not where the row triggers.
+abbrev pub isDropped : Row → State → Bool
+isDropped row s = s .selection .held && not (row .triggers && isWrite (s .command .instruction))
+
+-- Done, in hold or out of it: complete, and not dropped.
 unfoldable pub isDone : Row → State → Bool
-isDone row s = not (s .selection .held) && not (s .command .away) && isWhole s && allows row s (facts (s .command .instruction) .starts)
+isDone row s = not (isDropped row s) && isComplete row s
 
 -- A cycle's page start: WRITE's page, 0 for the identification page; the others have none and leave it.
 abbrev pub startOf : Row → State → Kind → ℕ

@@ -14,6 +14,8 @@ pub mod Program
 pub mod Examples
 pub mod Readings
 pub mod Smaller
+pub mod HeldLines
+pub mod Held
 pub mod Selections
 pub mod Recorded
 pub mod Loaded

@@ -10,7 +10,7 @@ begins bs = events (Event.Select false ∷ bytesIn bs)
 abbrev ends : Act
 ends = events (Event.Select true ∷ [])
 
-abbrev clocks : List Event
+abbrev pub clocks : List Event
 clocks = Event.Clock true ∷ Event.Clock false ∷ []
 
 -- Eight bits of Z.

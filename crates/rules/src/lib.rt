@@ -10,8 +10,8 @@ pub struct Sheet {
     pub bp11: usize,
 }
 
-// One row of the device table (document 01, "What the bench models"; document 02, W-202 and W-203). The identification page has a length
-// of its own: a page, or 0 where the device has none.
+// One row of the device table (document 01, "What the bench models"; document 02, W-202, W-203 and W-206). The identification page has a
+// length of its own: a page, or 0 where the device has none. `triggers`: deselecting in hold starts a complete write.
 pub struct Row {
     pub cells: usize,
     pub page: usize,
@@ -20,6 +20,7 @@ pub struct Row {
     pub time: usize,
     pub srwd: bool,
     pub coded: bool,
+    pub triggers: bool,
     pub sheet: Sheet,
 }
 

@@ -14,6 +14,7 @@ const M95040: Row = Row {
     time: 5000,
     srwd: false,
     coded: false,
+    triggers: false,
     sheet: Sheet {
         bp00: 0x200,
         bp01: 0x180,
@@ -30,6 +31,7 @@ const M95128D: Row = Row {
     time: 5000,
     srwd: true,
     coded: false,
+    triggers: true,
     sheet: Sheet {
         bp00: 0x4000,
         bp01: 0x3000,
@@ -46,6 +48,7 @@ const M95M01: Row = Row {
     time: 4000,
     srwd: true,
     coded: false,
+    triggers: false,
     sheet: Sheet {
         bp00: 0x20000,
         bp01: 0x18000,
@@ -62,6 +65,7 @@ const M95M02: Row = Row {
     time: 5000,
     srwd: true,
     coded: true,
+    triggers: false,
     sheet: Sheet {
         bp00: 0x40000,
         bp01: 0x30000,
@@ -78,6 +82,7 @@ const M95010: Row = Row {
     time: 5000,
     srwd: false,
     coded: false,
+    triggers: false,
     sheet: Sheet {
         bp00: 0x80,
         bp01: 0x60,
@@ -94,6 +99,7 @@ const M95020: Row = Row {
     time: 5000,
     srwd: false,
     coded: false,
+    triggers: false,
     sheet: Sheet {
         bp00: 0x100,
         bp01: 0xC0,
@@ -110,6 +116,7 @@ const M95128: Row = Row {
     time: 5000,
     srwd: true,
     coded: false,
+    triggers: true,
     sheet: Sheet {
         bp00: 0x4000,
         bp01: 0x3000,

@@ -4,7 +4,7 @@ ghost use mathlib.Core.Path.{_≡_};
 ghost use Prim.Native.Nat.{_<_};
 ghost use Rattle.rules.specs.Device.{Widths};
 ghost use Rattle.rules.specs.World.{if_then_else_};
-ghost use Rattle.rules.specs.Judge.{storable, blocks, isProtected, isShut, allows, isDone, startOf, judged};
+ghost use Rattle.rules.specs.Judge.{storable, blocks, isProtected, isShut, allows, isComplete, isDropped, isDone, startOf, judged};
 use rules::Cycle;
 use rules::Kind;
 use rules::Row;
@@ -58,16 +58,36 @@ pub fn allows(row: Row, s: State, kind: Kind) -> bool
     }
 }
 
-// Done: not held, not turned away, whole bytes, and all that the command asks for.
-pub fn is_done(row: Row, s: State) -> bool
+// Complete: not turned away, whole bytes, and all that the command asks for.
+pub fn is_complete(row: Row, s: State) -> bool
     requires { ⌜ Widths row ⌝ }
-    ensures { λ r. ⌜ r ≡ isDone row s ⌝ }
+    ensures { λ r. ⌜ r ≡ isComplete row s ⌝ }
 {
     let command = s.command;
     let i = command.instruction;
     let f = tables::facts(i);
     let starts = f.starts;
-    !s.selection.held & !command.away & (s.input.bits == 0) & allows(row, s, starts)
+    !command.away & (s.input.bits == 0) & allows(row, s, starts)
+}
+
+// Dropped: found in hold, and no write that this device triggers there.
+pub fn is_dropped(row: Row, s: State) -> bool
+    ensures { λ r. ⌜ r ≡ isDropped row s ⌝ }
+{
+    let command = s.command;
+    let i = command.instruction;
+    let f = tables::facts(i);
+    let starts = f.starts;
+    let change = tables::changes(starts);
+    s.selection.held & !(row.triggers & (f.addressed & change.runs))
+}
+
+// Done, in hold or out of it.
+pub fn is_done(row: Row, s: State) -> bool
+    requires { ⌜ Widths row ⌝ }
+    ensures { λ r. ⌜ r ≡ isDone row s ⌝ }
+{
+    !is_dropped(row, s) & is_complete(row, s)
 }
 
 // The page start of a cycle.

@@ -36,7 +36,7 @@ fn order(mut arguments: impl Iterator<Item = String>) -> Result<Order, String> {
         play: None,
         bench: None,
         seed: 1,
-        records: 2_000_000,
+        records: 2_200_000,
         keep: PathBuf::from("compare-files"),
     };
     while let Some(name) = arguments.next() {

@@ -6,7 +6,7 @@ use std::path::Path;
 use std::process::ExitCode;
 
 use m95_model::generate::{
-    made_events, records_of, sheet_events, short_events, tail, Profile, TAILS,
+    held_events, made_events, records_of, sheet_events, short_events, tail, Profile, TAILS,
 };
 use m95_model::{Device, Event, Fault, Vector, DEVICES};
 
@@ -61,11 +61,13 @@ fn main() -> ExitCode {
         eprintln!("use: store DIR");
         return ExitCode::from(2);
     };
-    for profile in Profile::ALL {
+    for &profile in Profile::STORED {
         let mut file = Vec::new();
         let joined = JOINED.iter().flat_map(|joined| joined.vectors(profile));
-        // Those about the service sheet came last.
-        let vectors: Vec<Vector> = joined.chain(made_by_hand(sheet_events(profile))).collect();
+        // Those about the service sheet came next, and those about held commands last.
+        let sheet = made_by_hand(sheet_events(profile));
+        let held = made_by_hand(held_events(profile));
+        let vectors: Vec<Vector> = joined.chain(sheet).chain(held).collect();
         for vector in &vectors {
             vector.append_to(&mut file);
         }
@@ -118,17 +120,18 @@ impl Joined {
 }
 
 impl Usual {
-    /// The vectors of the first seeds that give as many changing ones and others as asked for.
+    /// The vectors of the first seeds that give as many changing ones and others as asked for. The seeds are those that
+    /// were chosen before W-206: it changes what a trace gives, and must not change which traces there are.
     fn vectors(&self, profile: Profile, device: &'static Device) -> Vec<Vector> {
         let (mut changing, mut others) = (Vec::new(), Vec::new());
         for seed in 0.. {
-            let vector = generated(profile, device, seed);
-            let (kept, most) = match changes(&vector) {
+            let before = made_by_seed(Fault::HeldCommandDropped, profile, device, seed);
+            let (kept, most) = match changes(&before) {
                 true => (&mut changing, self.changing),
                 false => (&mut others, self.others),
             };
-            if kept.len() < most && vector.answers.len() >= FEWEST_RECORDS {
-                kept.push(vector);
+            if kept.len() < most && before.answers.len() >= FEWEST_RECORDS {
+                kept.push(generated(profile, device, seed));
             }
             if changing.len() == self.changing && others.len() == self.others {
                 break;
@@ -160,7 +163,7 @@ fn sharp_seeds(profile: Profile) -> [&'static [u64]; DEVICES.len()] {
             &[20, 127],
             &[126],
         ],
-        Profile::Malformed => [&[]; DEVICES.len()],
+        Profile::Malformed | Profile::Held => [&[]; DEVICES.len()],
     }
 }
 
@@ -171,8 +174,13 @@ fn made_by_hand(traces: Vec<(&'static Device, Vec<Event>)>) -> impl Iterator<Ite
 }
 
 fn generated(profile: Profile, device: &'static Device, seed: u64) -> Vector {
+    made_by_seed(Fault::None, profile, device, seed)
+}
+
+/// What the model with `fault` makes of the trace of a seed.
+fn made_by_seed(fault: Fault, profile: Profile, device: &'static Device, seed: u64) -> Vector {
     let events = short_events(profile, device, seed, RECORDS);
-    Vector::of(Fault::None, device, &records_of(&events))
+    Vector::of(fault, device, &records_of(&events))
 }
 
 fn changes(vector: &Vector) -> bool {

@@ -73,7 +73,7 @@ impl Maker {
 
     /// A lock can never be undone, so it may come only in some traces, and in their last part; where there is no
     /// identification page nothing locks and nothing is to be spared.
-    fn may_lock(&self) -> bool {
+    pub fn may_lock(&self) -> bool {
         !self.device.has_identification() || self.locks && self.events.len() * 4 >= self.records * 3
     }
 

@@ -232,6 +232,31 @@ pub(super) fn hold_at_end(random: &mut Random, events: &mut Vec<Event>) {
     }
 }
 
+/// S rises in hold: with C low or high, with HOLD low or high again, after clocks that do not count, with W low. Now
+/// and then only the pin says hold. C may rest high, so that it goes low first.
+pub(super) fn deselect_in_hold(random: &mut Random, events: &mut Vec<Event>) {
+    let end = events.len() - 1;
+    let (low, high) = (Event::Clock(false), Event::Clock(true));
+    if random.once_in(8) {
+        if events[end - 1] == low {
+            events.remove(end - 1);
+        }
+        insert(events, events.len() - 1, &[Event::Hold(false)]);
+        return;
+    }
+    let clocks = [high, low].repeat(random.pick(&[1, 1, 7, 8]));
+    let ways: [&[Event]; 6] = [
+        &[],
+        &[],
+        &[high],
+        &[high, Event::Hold(true)],
+        &clocks,
+        &[Event::Protect(false), Event::Protect(true)],
+    ];
+    insert(events, end, random.pick(&ways));
+    insert(events, end, &[low, Event::Hold(false)]);
+}
+
 /// One random event; S seldom, C most often.
 pub(super) fn noise(random: &mut Random, write_time: u32) -> Event {
     let level = random.level();

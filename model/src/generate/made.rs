@@ -1,6 +1,6 @@
 //! Short traces made by hand, for what a few hundred random records seldom reach: a second write after a first, a
-//! chip that is locked already, each code in a cycle, hold at each bit that is sent, an end within a cycle, and a write
-//! next to an entry of the service sheet.
+//! chip that is locked already, each code in a cycle, hold at each bit that is sent, an end within a cycle, a write
+//! next to an entry of the service sheet, and a command that S's rise finds held.
 
 use super::commands::{Maker, BIT_3, RDID, RDSR, READ, WRDI, WREN, WRID, WRITE, WRSR};
 use super::Profile;
@@ -65,6 +65,44 @@ const MADE_FOR_SHEET: [(Devices, Made); 3] = [
     (|_| true, (Profile::Protect, protects_half_and_all)),
 ];
 
+/// Those about commands that S's rise finds held (document 02, W-206), with the devices that get them: most are for
+/// the devices that let a write start there, the last one for those that drop it and that `deselects_in_hold` leaves
+/// out.
+const MADE_FOR_HELD: [(Devices, Made); 16] = [
+    (writes_in_hold, (Profile::Hold, writes_from_hold)),
+    (writes_in_hold, (Profile::Hold, holds_by_the_flag)),
+    (writes_in_hold, (Profile::Hold, clocks_in_hold)),
+    (writes_in_hold, (Profile::Hold, drops_others_in_hold)),
+    (writes_in_hold, (Profile::Lengths, held_write_lacks)),
+    (writes_in_hold, (Profile::Lengths, held_write_bits)),
+    (writes_in_hold, (Profile::Glitch, held_write_and_protection)),
+    (writes_in_hold, (Profile::Glitch, held_in_cycle)),
+    (writes_page_in_hold, (Profile::Mixed, held_page_and_lock)),
+    (writes_page_in_hold, (Profile::Mixed, held_when_locked)),
+    (writes_page_in_hold, (Profile::Mixed, held_when_protected)),
+    (writes_page_in_hold, (Profile::Lengths, held_page_lacks)),
+    (writes_page_in_hold, (Profile::Lengths, held_page_bits)),
+    (writes_page_in_hold, (Profile::Lengths, held_lock_bytes)),
+    (writes_no_page_in_hold, (Profile::Mixed, held_without_page)),
+    (drops_page_in_hold, (Profile::Hold, deselects_in_hold)),
+];
+
+fn writes_in_hold(device: &Device) -> bool {
+    device.writes_in_hold
+}
+
+fn writes_page_in_hold(device: &Device) -> bool {
+    device.writes_in_hold && device.has_identification()
+}
+
+fn writes_no_page_in_hold(device: &Device) -> bool {
+    device.writes_in_hold && !device.has_identification()
+}
+
+fn drops_page_in_hold(device: &Device) -> bool {
+    !device.writes_in_hold && device.has_identification()
+}
+
 /// Data bytes that differ from each other, from FFh and from 00h.
 const FIRST: u8 = 0xA5;
 const SECOND: u8 = 0x3C;
@@ -76,6 +114,7 @@ const RISE: Event = Event::Clock(true);
 const FALL: Event = Event::Clock(false);
 const HOLD: Event = Event::Hold(false);
 const RELEASE: Event = Event::Hold(true);
+const DESELECT: Event = Event::Select(true);
 
 /// The traces of this profile for these devices, each trace for one device after the other.
 pub fn made_events(
@@ -95,8 +134,17 @@ pub fn made_events(
 
 /// The traces of this profile about the service sheet.
 pub fn sheet_events(profile: Profile) -> Vec<(&'static Device, Vec<Event>)> {
+    events_for(profile, &MADE_FOR_SHEET)
+}
+
+/// The traces of this profile about commands that S's rise finds held.
+pub fn held_events(profile: Profile) -> Vec<(&'static Device, Vec<Event>)> {
+    events_for(profile, &MADE_FOR_HELD)
+}
+
+fn events_for(profile: Profile, list: &[(Devices, Made)]) -> Vec<(&'static Device, Vec<Event>)> {
     let mut traces = Vec::new();
-    for (place, (is_for, (of, steps))) in MADE_FOR_SHEET.iter().enumerate() {
+    for (place, (is_for, (of, steps))) in list.iter().enumerate() {
         let devices = DEVICES.iter().filter(|device| is_for(device));
         for device in devices.filter(|_| *of == profile) {
             traces.push((device, made(device, place, *steps)));
@@ -158,6 +206,41 @@ impl Maker {
     fn write_just_below(&mut self, status: u8) {
         let first = self.device.first_protected(status);
         self.write_bytes(first - 2, &[0]);
+    }
+
+    /// The first `bits` bits of `bytes` in a selection that ends with `ending` in place of the rise of S.
+    fn send_ending(&mut self, bytes: &[u8], bits: usize, ending: &[Event]) {
+        let mut events = self.selection_of(bytes, bits);
+        events.pop();
+        self.put(&events);
+        self.put(ending);
+    }
+
+    /// As before, deselected in hold.
+    fn send_bits_held(&mut self, bytes: &[u8], bits: usize) {
+        self.send_ending(bytes, bits, &[HOLD, DESELECT, RELEASE]);
+    }
+
+    fn send_held(&mut self, bytes: &[u8]) {
+        self.send_bits_held(bytes, 8 * bytes.len());
+    }
+
+    /// `bytes` with HOLD lowered while C is still high: it never holds.
+    fn send_unheld(&mut self, bytes: &[u8]) {
+        let mut events = self.selection(bytes);
+        events.truncate(events.len() - 2);
+        self.put(&events);
+        self.put(&[HOLD, DESELECT, RELEASE, FALL]);
+    }
+
+    /// A code, an address and data.
+    fn bytes_at(&self, code: u8, address: usize, data: &[u8]) -> Vec<u8> {
+        [&self.with_address(code, address)[..], data].concat()
+    }
+
+    /// LID. Without its data byte the last one is the address's, so bit 1 is set there too.
+    fn lid_bytes(&self, data: &[u8]) -> Vec<u8> {
+        self.bytes_at(WRID, self.device.lock_bit() | 0x02, data)
     }
 
     /// Enables and starts a cycle that writes one cell.
@@ -466,14 +549,11 @@ fn protect_low_and_array(maker: &mut Maker) {
     maker.send_at(READ, 0x22, &[0]);
 }
 
-/// A WRITE that lacks nothing is dropped.
+/// A WRITE that lacks nothing is dropped, but where the device lets it start.
 fn deselects_in_hold(maker: &mut Maker) {
     maker.send(&[WREN]);
-    let bytes = maker.with_address(WRITE, 0x33);
-    let mut events = maker.selection(&[&bytes[..], &[FIRST]].concat());
-    events.pop();
-    maker.put(&events);
-    maker.put(&[HOLD, Event::Select(true), RELEASE]);
+    let bytes = maker.bytes_at(WRITE, 0x33, &[FIRST]);
+    maker.send_held(&bytes);
     maker.send(&[RDSR, 0]);
 }
 
@@ -502,4 +582,190 @@ fn protects_half_and_all(maker: &mut Maker) {
     maker.settle();
     maker.enable();
     maker.write_just_above(0x8C);
+}
+
+/// A WRITE that lacks nothing is done. HOLD stays low: the next selection is lost, and time passes all the same.
+fn writes_from_hold(maker: &mut Maker) {
+    let page = maker.device.page;
+    let bytes = maker.bytes_at(WRITE, 3 * page - 1, &[FIRST, SECOND]);
+    maker.send(&[WREN]);
+    maker.send_ending(&bytes, 8 * bytes.len(), &[HOLD, DESELECT]);
+    maker.put(&[Event::Wait(maker.device.write_time - 1)]);
+    maker.send(&[RDSR, 0]);
+    maker.put(&[RELEASE]);
+    maker.send(&[RDSR, 0]);
+    maker.put(&[Event::Wait(1)]);
+    maker.send(&[RDSR, 0]);
+}
+
+/// HOLD high again while C is high is still hold, and HOLD low while C is high is none: of two WREN the second is done.
+/// A WRITE is done in the first case too.
+fn holds_by_the_flag(maker: &mut Maker) {
+    let by_flag = [HOLD, RISE, RELEASE, DESELECT, FALL];
+    maker.send_ending(&[WREN], 8, &by_flag);
+    maker.send(&[RDSR, 0]);
+    maker.send_unheld(&[WREN]);
+    let bytes = maker.bytes_at(WRITE, 0x44, &[FIRST]);
+    maker.send_ending(&bytes, 8 * bytes.len(), &by_flag);
+    maker.send(&[RDSR, 0]);
+    maker.settle();
+}
+
+/// A clock in hold does not spoil a WRITE; and one that never was held is done with HOLD low.
+fn clocks_in_hold(maker: &mut Maker) {
+    let page = maker.device.page;
+    maker.send(&[WREN]);
+    let bytes = maker.bytes_at(WRITE, page, &[FIRST]);
+    maker.send_ending(
+        &bytes,
+        8 * bytes.len(),
+        &[HOLD, RISE, FALL, DESELECT, RELEASE],
+    );
+    maker.settle();
+    maker.send(&[WREN]);
+    let bytes = maker.bytes_at(WRITE, 2 * page, &[SECOND]);
+    maker.send_unheld(&bytes);
+    maker.send(&[RDSR, 0]);
+    maker.settle();
+}
+
+/// WREN, WRDI and WRSR.
+fn drops_others_in_hold(maker: &mut Maker) {
+    maker.send_held(&[WREN]);
+    maker.send(&[RDSR, 0]);
+    maker.send(&[WREN]);
+    maker.send_held(&[WRDI]);
+    maker.send(&[RDSR, 0]);
+    maker.send_held(&[WRSR, 0x8C]);
+    maker.send(&[RDSR, 0]);
+    maker.settle();
+}
+
+/// A WRITE without WEL, then without a data byte, for which clocks in hold do not make up. A cycle that one of them
+/// starts shows at the end.
+fn held_write_lacks(maker: &mut Maker) {
+    let bytes = maker.bytes_at(WRITE, 0x81, &[FIRST]);
+    maker.send_held(&bytes);
+    maker.send(&[WREN]);
+    let clocks = [RISE, FALL].repeat(8);
+    let ending = [&[HOLD], &clocks[..], &[DESELECT, RELEASE]].concat();
+    maker.send_ending(&bytes, 24, &ending);
+    maker.send(&[RDSR, 0]);
+}
+
+/// A WRITE with a bit over, and one with a bit less, which a clock in hold does not make whole.
+fn held_write_bits(maker: &mut Maker) {
+    let bytes = maker.bytes_at(WRITE, 0x82, &[FIRST, 0]);
+    maker.send(&[WREN]);
+    maker.send_bits_held(&bytes, 33);
+    maker.send_ending(&bytes, 31, &[HOLD, RISE, FALL, DESELECT, RELEASE]);
+    maker.send(&[RDSR, 0]);
+}
+
+/// A WRITE into a protected page is dropped, one below is done although W is low in hold.
+fn held_write_and_protection(maker: &mut Maker) {
+    let first = maker.device.first_protected(0x04);
+    maker.set_status(0x04);
+    maker.send(&[WREN]);
+    let bytes = maker.bytes_at(WRITE, first, &[FIRST]);
+    maker.send_held(&bytes);
+    maker.send(&[RDSR, 0]);
+    let bytes = maker.bytes_at(WRITE, first - 2, &[SECOND]);
+    let protect = [Event::Protect(false), Event::Protect(true)];
+    let ending = [&[HOLD], &protect[..], &[DESELECT, RELEASE]].concat();
+    maker.send_ending(&bytes, 8 * bytes.len(), &ending);
+    maker.settle();
+}
+
+/// A WRITE that a cycle has turned away neither starts another one nor ends this one.
+fn held_in_cycle(maker: &mut Maker) {
+    let (page, time) = (maker.device.page, maker.device.write_time);
+    maker.send(&[WREN]);
+    maker.send_at(WRITE, page, &[FIRST]);
+    maker.put(&[Event::Wait(time / 2)]);
+    let bytes = maker.bytes_at(WRITE, 2 * page, &[SECOND]);
+    maker.send_held(&bytes);
+    maker.put(&[Event::Wait(time - time / 2)]);
+    maker.send(&[RDSR, 0]);
+}
+
+/// WRID, then LID.
+fn held_page_and_lock(maker: &mut Maker) {
+    let page = maker.bytes_at(WRID, 0x11, &[FIRST]);
+    let lock = maker.lid_bytes(&[0x02]);
+    for bytes in [page, lock] {
+        maker.send(&[WREN]);
+        maker.send_held(&bytes);
+        maker.send(&[RDSR, 0]);
+        maker.settle();
+    }
+}
+
+/// Neither WRID nor LID is done when locked.
+fn held_when_locked(maker: &mut Maker) {
+    let lock = maker.lid_bytes(&[0x02]);
+    maker.send(&[WREN]);
+    maker.send(&lock);
+    maker.settle();
+    send_page_and_lock_held(maker);
+}
+
+/// Nor with BP 11.
+fn held_when_protected(maker: &mut Maker) {
+    maker.set_status(0x0C);
+    send_page_and_lock_held(maker);
+}
+
+/// A WRID and a LID with WEL set; the status at the end shows either.
+fn send_page_and_lock_held(maker: &mut Maker) {
+    let page = maker.bytes_at(WRID, 0x12, &[FIRST]);
+    let lock = maker.lid_bytes(&[0x02]);
+    maker.send(&[WREN]);
+    maker.send_held(&page);
+    maker.send_held(&lock);
+    maker.send(&[RDSR, 0]);
+}
+
+/// WRID and LID without WEL, then without a data byte.
+fn held_page_lacks(maker: &mut Maker) {
+    let page = maker.bytes_at(WRID, 0x13, &[FIRST]);
+    let lock = maker.lid_bytes(&[0x02]);
+    maker.send_held(&page);
+    maker.send_held(&lock);
+    maker.send(&[WREN]);
+    maker.send_bits_held(&page, 24);
+    maker.send_bits_held(&lock, 24);
+    maker.send(&[RDSR, 0]);
+}
+
+/// WRID and LID with a bit over, and WRID with a cut byte.
+fn held_page_bits(maker: &mut Maker) {
+    let page = maker.bytes_at(WRID, 0x14, &[FIRST, 0]);
+    let lock = maker.lid_bytes(&[0x02, 0]);
+    maker.send(&[WREN]);
+    maker.send_bits_held(&page, 33);
+    maker.send_bits_held(&page, 31);
+    maker.send_bits_held(&lock, 33);
+    maker.send(&[RDSR, 0]);
+}
+
+/// LID with two data bytes, and with one whose bit 1 is clear.
+fn held_lock_bytes(maker: &mut Maker) {
+    let two = maker.lid_bytes(&[0x02, 0x02]);
+    let other = maker.lid_bytes(&[0xFD]);
+    maker.send(&[WREN]);
+    maker.send_held(&two);
+    maker.send_held(&other);
+    maker.send(&[RDSR, 0]);
+}
+
+/// 82h is no code.
+fn held_without_page(maker: &mut Maker) {
+    maker.send(&[WREN]);
+    for address in [0x15, maker.device.lock_bit()] {
+        let bytes = maker.bytes_at(WRID, address, &[0x02]);
+        maker.send_held(&bytes);
+    }
+    maker.send(&[RDSR, 0]);
+    maker.settle();
 }

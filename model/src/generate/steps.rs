@@ -1,9 +1,35 @@
 //! The steps that the profiles repeat.
 
-use super::commands::{Command, Kind, Maker};
+use super::commands::{Command, Kind, Maker, RDSR};
 use super::disturb;
 use super::Profile;
 use crate::trace::Event;
+
+/// What a command lacks that S's rise finds held.
+#[derive(Clone, Copy, PartialEq, Eq)]
+enum Lack {
+    Nothing,
+    Wel,
+    /// Its page is protected.
+    Opening,
+    Data,
+    /// Some bits, or it has some over.
+    Bits,
+    /// It has a byte over, which only LID cannot take.
+    End,
+}
+
+const LACKS: [Lack; 9] = [
+    Lack::Nothing,
+    Lack::Nothing,
+    Lack::Nothing,
+    Lack::Nothing,
+    Lack::Wel,
+    Lack::Opening,
+    Lack::Data,
+    Lack::Bits,
+    Lack::End,
+];
 
 impl Maker {
     pub fn step(&mut self, profile: Profile) {
@@ -21,6 +47,8 @@ impl Maker {
                 let other = self.random.pick(others);
                 self.step(other);
             }
+            Profile::Held if self.random.once_in(8) => self.held_in_cycle_step(),
+            Profile::Held => self.held_step(),
         }
     }
 
@@ -351,5 +379,93 @@ impl Maker {
         self.look();
         let address = self.cell_address();
         self.read_around(address);
+    }
+
+    /// A command that S's rise finds held, with all that it needs or but for one thing.
+    fn held_step(&mut self) {
+        self.calm();
+        let lack = self.random.pick(&LACKS);
+        let command = self.held_command(lack != Lack::Nothing);
+        let protection = match command.kind {
+            Kind::Array => self.random.pick(&[0x04, 0x08, 0x0C]),
+            _ => self.random.pick(&[0x0C, 0x8C]),
+        };
+        match lack {
+            Lack::Opening => self.set_status(protection),
+            _ if self.random.once_in(8) => self.set_status(0),
+            _ => {}
+        }
+        if lack == Lack::Wel {
+            self.disable();
+        } else {
+            self.make_ready(&command);
+        }
+        self.deselect_held(&command, lack);
+        self.look();
+        self.settle();
+        if self.random.level() {
+            self.look_back(&command);
+        }
+        if lack == Lack::Opening || command.kind == Kind::Status {
+            self.set_status(0);
+        }
+    }
+
+    /// LID may be sent in full where it is harmless, since what it lacks surely stops it. Where it may lock it comes
+    /// often, so that it also finds a lock.
+    fn held_command(&mut self, harmless: bool) -> Command {
+        if self.device.has_identification() && self.may_lock() && self.random.level() {
+            return self.lid_command(harmless);
+        }
+        match self.random.below(12) {
+            0..=2 => self.write_command(),
+            3..=5 => self.wrid_command(),
+            6..=8 => self.lid_command(harmless),
+            9 => self.wrsr_command(),
+            _ => self.short_command(),
+        }
+    }
+
+    /// Sends the command and deselects in hold; HOLD may stay low for a while. A selection meanwhile is lost.
+    fn deselect_held(&mut self, command: &Command, lack: Lack) {
+        let whole = 8 * command.bytes.len();
+        let before_data = 8 * usize::from(self.device.bytes_before_data());
+        let bits = match lack {
+            Lack::Data => before_data.min(whole - 8),
+            Lack::Bits => self
+                .random
+                .pick(&[whole - 7, whole - 1, whole + 1, whole + 7]),
+            Lack::End => whole + 8,
+            _ => whole,
+        };
+        let bytes = [&command.bytes[..], &[0x02]].concat();
+        let mut events = self.selection_of(&bytes, bits);
+        disturb::deselect_in_hold(&mut self.random, &mut events);
+        self.put(&events);
+        match self.random.below(6) {
+            0 | 1 => self.some_wait(),
+            2 => self.send(&[RDSR, 0]),
+            _ => {}
+        }
+        self.rest();
+    }
+
+    /// A command that a cycle has turned away and S's rise finds held. The cycle ends when it would have ended without.
+    fn held_in_cycle_step(&mut self) {
+        self.calm();
+        self.set_status(0);
+        self.enable();
+        let running = self.write_command();
+        self.send(&running.bytes);
+        let time = self.device.write_time;
+        self.put(&[Event::Wait(time / 2)]);
+        let command = self.held_command(false);
+        let mut events = self.selection(&command.bytes);
+        disturb::deselect_in_hold(&mut self.random, &mut events);
+        self.put(&events);
+        self.rest();
+        self.look();
+        self.put(&[Event::Wait(time - time / 2)]);
+        self.look_after(&running);
     }
 }

@@ -140,6 +140,7 @@ impl Mistaken<'_> {
     }
 
     fn after_code(&mut self, was: &State) {
+        self.held.code = self.chip.state.last_byte;
         self.chip.state.cycle = was.cycle;
         let state = &mut *self.chip.state;
         let instruction = state.instruction;

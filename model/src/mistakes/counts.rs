@@ -273,6 +273,7 @@ impl Mistaken<'_> {
         let marked = self.chip.marks.iter().filter(|&&mark| mark == 1).count() as u16;
         let count = match (was.cycle, self.fault) {
             (Cycle::Array, Fault::CountLeftAtCycleEnd) => self.count_before,
+            (Cycle::Array, Fault::CountLeftByHeldWrite) if self.held.started => self.count_before,
             (Cycle::Array, Fault::CountAddsMarkedBytes) => self.count_before + marked,
             (Cycle::Array, _) => self.counted(&self.chip.cells[start..start + size]),
             (Cycle::Identification, _) if by_identification => page_count(self.chip.identification),

@@ -50,9 +50,12 @@ impl Mistaken<'_> {
                 self.marks_before = self.chip.marks.to_vec();
                 self.chip.marks.fill(1);
             }
-            (Fault::CountLeftAtCycleEnd | Fault::CountAddsMarkedBytes, Event::Wait(_)) => {
-                self.note_count();
-            }
+            (
+                Fault::CountLeftAtCycleEnd
+                | Fault::CountAddsMarkedBytes
+                | Fault::CountLeftByHeldWrite,
+                Event::Wait(_),
+            ) => self.note_count(),
             _ => {}
         }
     }

@@ -15,13 +15,9 @@ fn writes(instruction: Instruction) -> bool {
 
 impl Mistaken<'_> {
     pub(super) fn before_select_rise(&mut self) {
+        self.before_held_rise();
         let state = &mut *self.chip.state;
         match self.fault {
-            Fault::HeldCommandJudged => state.held = false,
-            Fault::HeldWithHoldHighJudged if state.hold => state.held = false,
-            Fault::Device7HeldWriteJudged if state.instruction == Instruction::Write => {
-                state.held = false;
-            }
             Fault::HoldPinDropsCommand if !state.hold => state.held = true,
             Fault::ProtectSampledAtEnd => state.protect_seen_low = !state.protect,
             _ if self.is_over_before_select_rise() => self.drop_command(),
@@ -39,7 +35,7 @@ impl Mistaken<'_> {
     }
 
     /// Drops the command: an unknown one does nothing.
-    fn drop_command(&mut self) {
+    pub(super) fn drop_command(&mut self) {
         self.chip.state.instruction = Instruction::Unknown;
     }
 
@@ -163,10 +159,14 @@ impl Mistaken<'_> {
             state.write_enable_latch = was.write_enable_latch;
         }
         if started {
+            self.held.started = was.held;
             self.after_status_judged();
             self.after_cycle_started();
         } else if !was.held && !was.turned_away {
             self.after_nothing_started(was);
+        }
+        if was.held {
+            self.after_held_rise(was, started);
         }
         self.keep_received(was);
     }

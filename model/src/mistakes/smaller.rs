@@ -49,10 +49,10 @@ pub(super) fn limited(fault: Fault, device: &Device) -> Fault {
         Fault::Device5And6StoreSrwd => (Fault::WrsrStoresSrwdOnDevice1, &[5, 6]),
         Fault::Device5And6UpperBitsOne => (Fault::Device1UpperBitsOne, &[5, 6]),
 
-        Fault::Device7HeldWriteJudged
-        | Fault::Device7RdidSends
+        Fault::Device7RdidSends
         | Fault::Device7RdlsSends
-        | Fault::Device7SrwdMissing => (fault, &[7]),
+        | Fault::Device7SrwdMissing
+        | Fault::Device7HeldWridStartsCycle => (fault, &[7]),
         Fault::Device7CodeBit3Ignored => (Fault::CodeBit3IgnoredEverywhere, &[7]),
         Fault::Device7WrsrIgnoresProtect => (Fault::WrsrIgnoresProtect, &[7]),
         Fault::Device7WrsrStoppedWithoutSrwd => (Fault::WrsrStoppedWithoutSrwd, &[7]),

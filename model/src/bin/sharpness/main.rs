@@ -29,6 +29,8 @@ use views::Views;
 const RECORDS: usize = 3_000;
 /// A malformed trace is about its end, so it may be short.
 const MALFORMED_RECORDS: usize = 200;
+/// One device alone has all that the faults of a held command are about.
+const HELD_RECORDS: usize = 6_000;
 /// With fewer of them some entries of the sheet are never met.
 const SEEDS: u64 = 24;
 const USE: &str = "use: sharpness [SEEDS] or sharpness --stored DIR";
@@ -156,6 +158,7 @@ impl Case {
         let own = ((seed * 100 + which as u64) * 10 + u64::from(device.number)) * 10;
         let records = match profile {
             Profile::Malformed => MALFORMED_RECORDS,
+            Profile::Held => HELD_RECORDS,
             _ => RECORDS,
         };
         let mut case = Case {

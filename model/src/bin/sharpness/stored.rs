@@ -25,7 +25,7 @@ const BLANK: &str = "only a search for a blank page shows it, which a vector doe
 const BENCH: &str = "only the bench program shows it, which a vector does not run";
 
 /// Faults that no vector can notice, and why.
-const UNNOTICED: [(Fault, &str); 21] = [
+const UNNOTICED: [(Fault, &str); 22] = [
     (Fault::CycleEndClearsMarks, LATCH),
     (Fault::MarksClearedOnlyWithWel, LATCH),
     (Fault::LatchDataCleared, LATCH),
@@ -46,6 +46,7 @@ const UNNOTICED: [(Fault, &str); 21] = [
     (Fault::CountSetAtSelectRise, COUNTS),
     (Fault::CountSetByIdentificationCycle, COUNTS),
     (Fault::CountClearedByPower, COUNTS),
+    (Fault::CountLeftByHeldWrite, COUNTS),
     (Fault::CountOfFileIsBlank, FILE),
 ];
 
@@ -107,7 +108,7 @@ fn elsewhere(fault: Fault) -> Option<&'static str> {
 /// The vectors of each profile. Each must be what the right model gives, or it would seem to notice everything.
 fn read(directory: &Path) -> Result<Vec<(Profile, Vec<Vector>)>, String> {
     let mut files = Vec::new();
-    for profile in Profile::ALL {
+    for &profile in Profile::STORED {
         let path = directory.join(profile.name());
         let bytes = fs::read(&path).map_err(|error| format!("{}: {error}", path.display()))?;
         let vectors = Vector::read_all(&bytes)

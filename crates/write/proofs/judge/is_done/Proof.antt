@@ -1,20 +1,18 @@
 -- `write::judge::is_done` meets its contract.
-use Rattle.rules.specs.Judge.{isDone, isWhole}
+use Rattle.rules.specs.Judge.{isDone}
 use borrow.Author.Needs.{needs}
 use Rattle.write.proofs.judge.is_done.Statement.{statement}
 use Rattle.write.proofs.judge.is_done.Tie as tie
 
-facts-requires : tie.Need-facts-requires
-facts-requires c κs = search needs
+is-dropped-requires : tie.Need-is-dropped-requires
+is-dropped-requires c κs = search needs
 
-allows-requires : tie.Need-allows-requires
-allows-requires c κs = search needs
+is-complete-requires : tie.Need-is-complete-requires
+is-complete-requires c κs = search needs
 
 returns : tie.Need-returns
-unfolding isDone isWhole
-returns c =
-    let facts = c .before .before .before .before .facts in
-    rw (c .allows .ensures, facts .ensures)
+unfolding isDone
+returns c = rw (c .before .is-dropped .ensures, c .is-complete .ensures)
 
 pub is-done-spec : {M : Type 1} → statement M
-is-done-spec = tie.close (tie.spec facts-requires allows-requires returns)
+is-done-spec = tie.close (tie.spec is-dropped-requires is-complete-requires returns)
