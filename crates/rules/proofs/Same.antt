@@ -13,7 +13,7 @@ use Rattle.rules.specs.Device.{Widths}
 use Rattle.rules.specs.Instruction.{facts, changes, busy, holdsLatch, latches, decode, turnedAway, longer, lockBit}
 use Rattle.rules.specs.Receive.{isCode, isLast, isLatched, commandAfter, latchAfter, risen, risenLatch}
 use Rattle.rules.specs.Send.{fallen}
-use Rattle.rules.specs.Judge.{allows, isWhole, isComplete, isDropped, isDone, judged}
+use Rattle.rules.specs.Judge.{isComplete, isDropped, isDone, judged}
 use Rattle.rules.specs.Cycle.{written, recounted, waitedState, waited}
 use Rattle.rules.specs.Event.{pinsAfter, selected, deselected, decodes, answer, refusal, react, settled, step, next}
 use Rattle.rules.specs.Sound.{Lent}
@@ -143,11 +143,9 @@ module _ (row : Row) (s : State) where
   risen-uses : (x : Bool) → uses (if x then deselected (judged row s) else s) ≡ true → uses s ≡ true
   unfolding judged isDone
   risen-uses true =
-      let k = facts (s .command .instruction) .starts in
-      let whole = not (s .command .away) && isWhole s in
-      begun-uses (not (isDropped row s) && isComplete row s && changes k .runs)
-      (λ e. not-true (s .command .away) (and-left (not (s .command .away)) (isWhole s) (and-left whole (allows row s k)
-      (and-right (not (isDropped row s)) (isComplete row s) (and-left (not (isDropped row s) && isComplete row s) (changes k .runs) e)))))
+      let done = not (isDropped row s) && isComplete row s in
+      let runs = changes (facts (s .command .instruction) .starts) .runs in
+      begun-uses (done && runs) (λ e. not-true (s .command .away) (and-left _ _ (and-left _ _ (and-right (not (isDropped row s)) (isComplete row s) (and-left done runs e)))))
   risen-uses false = λ u. u
 
 select-same : {row : Row} {w t : World} (b : Bool) → Same row w t → Same row (unheld row (Event.Select b) w) (unheld row (Event.Select b) t)
