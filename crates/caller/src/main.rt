@@ -189,7 +189,7 @@ fn refuses_a_wrong_count() {
     check::expect(counts[0] == 1);
 }
 
-// S rises on a device in hold that has taken a whole WRITE: an M95128-D starts its cycle, and RDSR would send WIP and WEL.
+// S rises on an M95128-D in hold that has the bytes of a WRITE: a cycle starts, and RDSR would send WIP and WEL.
 fn writes_in_hold() {
     let mut cells = [0xFFu8; 16384];
     let mut identification = [0xFFu8; 64];

@@ -5,7 +5,7 @@ use borrow.Author.Tests.{not-true, not-false}
 use Rattle.rules.specs.World.{Row, Instruction, Kind, Event, State, World, withPins, withState}
 use Rattle.rules.specs.Instruction.{facts, changes, isWrite}
 use Rattle.rules.specs.Judge.{isWhole, isComplete, isDropped, isDone, startOf, judged}
-use Rattle.rules.specs.Event.{pinsAfter, deselected}
+use Rattle.rules.specs.Event.{pinsAfter, deselected, react, step, next}
 use Rattle.rules.specs.Held.{Writes, write, wrid, lid, released, HeldWriteStarts, HeldOthersDropped}
 use Rattle.rules.proofs.Choice.{clash, and-left, and-right, and-rest}
 use Rattle.rules.proofs.Judged.{allows-alike, judged-none, rises}
@@ -36,9 +36,9 @@ writes Instruction.Unknown e = clash (sym e)
 
 -- In hold, where the row triggers, and out of hold a write is done exactly if it is complete.
 module _ (row : Row) (w : World) where
-  done-released : isDone row (released w .state) ≡ isComplete row (w .state)
+  done-released : (b : Bool) → isDone row (released b w .state) ≡ isComplete row (w .state)
   unfolding isDone isWhole
-  done-released = rw (allows-alike row (released w .state) (w .state) refl refl refl refl (facts (w .state .command .instruction) .starts))
+  done-released b = rw (allows-alike row (released b w .state) (w .state) refl refl refl refl (facts (w .state .command .instruction) .starts))
 
   done-held : row .triggers ≡ true → Writes (w .state .command .instruction) → isDone row (w .state) ≡ isComplete row (w .state)
   unfolding isDone
@@ -69,24 +69,31 @@ module _ (row : Row) (w : World) where
           (and-right kept complete e))
       go false e = refl
 
-  start-released : (k : Kind) → startOf row (released w .state) k ≡ startOf row (w .state) k
-  start-released Kind.None = refl
-  start-released Kind.Array = refl
-  start-released Kind.Identification = refl
-  start-released Kind.Status = refl
-  start-released Kind.Lock = refl
+  start-released : (b : Bool) (k : Kind) → startOf row (released b w .state) k ≡ startOf row (w .state) k
+  start-released b Kind.None = refl
+  start-released b Kind.Array = refl
+  start-released b Kind.Identification = refl
+  start-released b Kind.Status = refl
+  start-released b Kind.Lock = refl
 
-  judged-released : row .triggers ≡ true → Writes (w .state .command .instruction) → deselected (judged row (w .state)) ≡ deselected (judged row (released w .state))
+  judged-released : row .triggers ≡ true → Writes (w .state .command .instruction) → (b : Bool)
+      → deselected (judged row (w .state)) ≡ withPins (w .state .pins) (deselected (judged row (released b w .state)))
   unfolding judged
-  judged-released t i = rw (done-held t i, done-released, start-released (facts (w .state .command .instruction) .starts))
+  judged-released t i b = rw (done-held t i, done-released b, start-released b (facts (w .state .command .instruction) .starts))
+
+-- Out of a selection an event of HOLD sets its pin and does no more.
+as-released : (row : Row) (w : World) → row .triggers ≡ true → w .state .selection .selected ≡ true → w .state .pins .s ≡ false
+    → Writes (w .state .command .instruction) → (b : Bool)
+    → next row (Event.Select true) w ≡ next row (Event.Hold (w .state .pins .hold)) (next row (Event.Select true) (released b w))
+unfolding next step react
+as-released row w t on low i b =
+    let p = pinsAfter (Event.Select true) (w .state .pins) in
+    rises row w on low ∙ ap (λ (s : State). withState (withPins p s) w) (judged-released row w t i b)
+    ∙ ap (next row (Event.Hold (w .state .pins .hold))) (sym (rises row (released b w) on low))
 
 pub held-write-starts : HeldWriteStarts
 unfolding judged
-held-write-starts row w t on low i =
-    let p = pinsAfter (Event.Select true) (w .state .pins) in (
-      rises row w on low ∙ ap (λ (s : State). withState (withPins p s) w) (judged-released row w t i) ∙ sym (rises row (released w) on low),
-      λ c. rw (rises row w on low, done-held row w t i, c, runs i) (refl, refl),
-    )
+held-write-starts row w t on low i = (as-released row w t on low i, λ c. rw (rises row w on low, done-held row w t i, c, runs i) (refl, refl))
 
 pub held-others-dropped : HeldOthersDropped
 held-others-dropped row w on low held f =

@@ -85,9 +85,13 @@ held-write-in-a-cycle : Seen spec.held-write-in-a-cycle
 unfolding opened
 held-write-in-a-cycle = refl
 
-clocks-in-hold-of-a-write : Seen spec.clocks-in-hold-of-a-write
+clocks-in-hold-complete-no-byte : Seen spec.clocks-in-hold-complete-no-byte
 unfolding opened
-clocks-in-hold-of-a-write = refl
+clocks-in-hold-complete-no-byte = refl
+
+clocks-in-hold-spoil-no-byte : Seen spec.clocks-in-hold-spoil-no-byte
+unfolding opened
+clocks-in-hold-spoil-no-byte = refl
 
 selected-after-a-held-write : Seen spec.selected-after-a-held-write
 unfolding opened
@@ -99,4 +103,4 @@ examples-206 =
     and m95020-held-write and held-wrid and held-lid and held-wren and held-wrdi and held-wrsr and held-with-hold-high-write
     and held-with-hold-high-wrsr and not-held-with-hold-low-write and not-held-with-hold-low-wrsr and held-write-with-a-bit-over
     and held-write-without-data and held-write-without-wel and held-write-in-a-cycle
-    and clocks-in-hold-of-a-write and selected-after-a-held-write and none
+    and clocks-in-hold-complete-no-byte and clocks-in-hold-spoil-no-byte and selected-after-a-held-write and none

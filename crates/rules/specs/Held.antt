@@ -1,5 +1,5 @@
 -- W-206 as statements: what S's rise does with a command that it finds held, for any row, by what its column says. `HeldLines` has examples.
-use Rattle.rules.specs.World.{_≡_, true, false, Row, Instruction, Event, World, withPins, withSelection, withState}
+use Rattle.rules.specs.World.{_≡_, Bool, true, false, Row, Instruction, Event, World, withPins, withSelection, withState}
 use Rattle.rules.specs.Instruction.{facts}
 use Rattle.rules.specs.Judge.{isComplete}
 use Rattle.rules.specs.Event.{pinsAfter, deselected, next}
@@ -10,12 +10,13 @@ pub data Writes : Instruction → Type 0 where
   wrid : Writes Instruction.Wrid
   lid : Writes Instruction.Lid
 
--- The same world out of hold.
-abbrev pub released : World → World
-released w =
+-- The same world out of hold, with HOLD at a level: high, as it then is while C is low, or low, as it may be while C is high.
+abbrev pub released : Bool → World → World
+released b w =
     let s = w .state in
     withState
-    (withSelection (s .place .address) (record { selected = s .selection .selected; held = false; seen = s .selection .seen }) (s .input) (s .command) (s .output) s)
+    (withPins (pinsAfter (Event.Hold b) (s .pins))
+    (withSelection (s .place .address) (record { selected = s .selection .selected; held = false; seen = s .selection .seen }) (s .input) (s .command) (s .output) s))
     w
 
 -- The selection is over, S is high, and all else is as it was.
@@ -23,13 +24,13 @@ abbrev pub ended : World → World
 ended w = withState (withPins (pinsAfter (Event.Select true) (w .state .pins)) (deselected (w .state))) w
 
 -- The theorem `held-write-starts`: where the row triggers, S's rise makes of a write, complete or not, what it makes of the same write out of
--- hold; and the cycle of a complete one runs then, for the whole write time.
+-- hold, whatever HOLD's level, which is then put back; and the cycle of a complete one runs, for the whole write time.
 abbrev pub HeldWriteStarts : Type 0
 HeldWriteStarts =
     (row : Row) (w : World) → row .triggers ≡ true → w .state .selection .selected ≡ true → w .state .pins .s ≡ false
     → Writes (w .state .command .instruction) →
     let r = next row (Event.Select true) w in
-    (r ≡ next row (Event.Select true) (released w))
+    ((b : Bool) → r ≡ next row (Event.Hold (w .state .pins .hold)) (next row (Event.Select true) (released b w)))
     × (isComplete row (w .state) ≡ true → (r .state .cycle .kind ≡ facts (w .state .command .instruction) .starts) × (r .state .place .left ≡ row .time))
 
 -- The theorem `held-others-dropped`: in hold everything else is dropped, be it another command, a write that is not complete, or whatever a row

@@ -33,11 +33,14 @@ abbrev threeBytes : List ℕ
 threeBytes = 0x02 ∷ 0x00 ∷ 0x00 ∷ 0x05 ∷ 0x66 ∷ []
 
 -- A complete WRITE, on each device. The two M95128s write, and take their write time for it.
+abbrev heldWrite : List Act
+heldWrite = wren ∷ held twoBytes ∷ pause 4999 ∷ status ∷ pause 1 ∷ status ∷ cell 5 ∷ []
+
 abbrev pub m95128d-held-write : Line
-m95128d-held-write = (2, wren ∷ held twoBytes ∷ pause 4999 ∷ status ∷ pause 1 ∷ status ∷ cell 5 ∷ [], 0x03 ∷ 0x00 ∷ 0x66 ∷ [])
+m95128d-held-write = (2, heldWrite, 0x03 ∷ 0x00 ∷ 0x66 ∷ [])
 
 abbrev pub m95128-held-write : Line
-m95128-held-write = (7, wren ∷ held twoBytes ∷ status ∷ [], 0x03 ∷ [])
+m95128-held-write = (7, heldWrite, 0x03 ∷ 0x00 ∷ 0x66 ∷ [])
 
 abbrev pub m95040-held-write : Line
 m95040-held-write = (1, wren ∷ held oneByte ∷ status ∷ full ∷ cell 5 ∷ [], 0x02 ∷ 0xFF ∷ [])
@@ -98,8 +101,17 @@ abbrev pub held-write-in-a-cycle : Line
 held-write-in-a-cycle = (2, wren ∷ rolls ∷ pause 1 ∷ held twoBytes ∷ pause 4999 ∷ status ∷ cell 5 ∷ cell 0x3E ∷ [], 0x00 ∷ 0xFF ∷ 0xA1 ∷ [])
 
 -- Clocks in hold neither complete a byte nor spoil one.
-abbrev pub clocks-in-hold-of-a-write : Line
-clocks-in-hold-of-a-write = (
+abbrev pub clocks-in-hold-complete-no-byte : Line
+clocks-in-hold-complete-no-byte = (
+  2,
+  wren ∷ events
+      (Event.Select false ∷ bytesIn (0x02 ∷ 0x00 ∷ 0x05 ∷ []) ++ bitsIn 7 0x33 ++ Event.Hold false ∷ clocks ++ Event.Select true ∷ Event.Hold true ∷ [])
+      ∷ status ∷ [],
+  0x02 ∷ [],
+)
+
+abbrev pub clocks-in-hold-spoil-no-byte : Line
+clocks-in-hold-spoil-no-byte = (
   2,
   wren ∷ events
       (Event.Select false ∷ bytesIn (0x02 ∷ 0x00 ∷ 0x05 ∷ []) ++ bitsIn 4 6 ++ Event.Hold false ∷ clocks ++ Event.Hold true ∷ bitsIn 4 6 ++ Event.Hold false
@@ -123,4 +135,5 @@ examples-206 =
     m95128d-held-write ∷ m95128-held-write ∷ m95040-held-write ∷ m95m01-held-write ∷ m95m02-held-write ∷ m95010-held-write ∷ m95020-held-write
     ∷ held-wrid ∷ held-lid ∷ held-wren ∷ held-wrdi ∷ held-wrsr ∷ held-with-hold-high-write ∷ held-with-hold-high-wrsr
     ∷ not-held-with-hold-low-write ∷ not-held-with-hold-low-wrsr ∷ held-write-with-a-bit-over ∷ held-write-without-data
-    ∷ held-write-without-wel ∷ held-write-in-a-cycle ∷ clocks-in-hold-of-a-write ∷ selected-after-a-held-write ∷ []
+    ∷ held-write-without-wel ∷ held-write-in-a-cycle ∷ clocks-in-hold-complete-no-byte ∷ clocks-in-hold-spoil-no-byte
+    ∷ selected-after-a-held-write ∷ []

@@ -56,7 +56,7 @@ startOf row s Kind.Identification = 0
 startOf row s Kind.Status = s .place .start
 startOf row s Kind.Lock = s .place .start
 
--- A done WREN sets WEL, a done WRDI resets it, and a done write starts its cycle; else nothing changes.
+-- A done WREN sets WEL, a done WRDI resets it, and what is done and has a cycle starts it; else nothing changes.
 unfoldable pub judged : Row → State → State
 judged row s =
     let f = facts (s .command .instruction) in
