@@ -22,8 +22,8 @@ use Rattle.rules.specs.Call.{memoryRefusal, worldRefusal, prepareOutcome, store
 use Rattle.rules.specs.Call.{foundNumber, pageNumber, Found, foundAs, blankOutcome}
 use Rattle.rules.proofs.Choice.{if-elim}
 use Rattle.m95.proofs.Calling.{fine}
-use Rattle.m95_c.proofs.Packing.{state-length}
-use Rattle.m95_c.specs.StateBytes.{isState, stateOf, noState, bytesOf}
+use Rattle.state_bytes.proofs.Packing.{state-length}
+use Rattle.state_bytes.specs.StateBytes.{isState, stateOf, noState, bytesOf}
 use Rattle.m95_c.specs.Left.{deviceOf, sizesAs, sizesOf, Buffers, buffersOf, worldWith, preparedAs, prepareLeft, byteFor, loadedAs, loadLeft, eventRefusal}
 use Rattle.m95_c.specs.Left.{eventOf, repliedAs, eventLeft, ranAs, runLeft, searchedAs, blankLeft, toldAs, statusLeft, keptAs, storedLeft, regionOf, partStart, placedAs, viewLeft}
 

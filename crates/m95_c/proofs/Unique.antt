@@ -4,7 +4,7 @@ use mathlib.Core.Path.{_≡_}
 use mathlib.Core.List.{List}
 use Rattle.rules.specs.Call.{Counted, countOutcome}
 use Rattle.m95.proofs.Unique.{unique}
-use Rattle.m95_c.specs.StateBytes.{version}
+use Rattle.state_bytes.specs.StateBytes.{version}
 use Rattle.m95_c.specs.Left.{deviceOf, sizesOf, Buffers, buffersRefusal, Prepared, prepareLeft, Loaded, loadLeft, Kept, storedLeft}
 use Rattle.m95_c.specs.Left.{Replied, eventLeft, Ran, runLeft, Searched, blankLeft, Told, statusLeft, Placed, viewLeft}
 

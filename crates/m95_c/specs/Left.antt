@@ -10,7 +10,7 @@ use Rattle.rules.specs.Send.{statusByte}
 use Rattle.rules.specs.Trace.{lengthOf, pinEvent}
 use Rattle.rules.specs.Call.{memoryRefusal, worldRefusal, prepareOutcome, foundNumber, pageNumber, blankOutcome, storedAs, storedIn, loadOutcome, eventOutcome, runOutcome, viewOutcome}
 use Rattle.m95_c.specs.declared.showing.Sizes.{Sizes}
-use Rattle.m95_c.specs.StateBytes.{stateLength, isState, stateOf, stateAt, noState, bytesOf}
+use Rattle.state_bytes.specs.StateBytes.{stateLength, isState, stateOf, stateAt, noState, bytesOf}
 
 -- A number above a byte's is no device's, as 0 is.
 abbrev pub deviceOf : ℕ → ℕ

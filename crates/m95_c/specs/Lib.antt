@@ -1,3 +1,2 @@
--- The state as bytes, and what each call for C leaves.
-pub mod StateBytes
+-- What each call for C leaves.
 pub mod Left

@@ -4,20 +4,18 @@
 
 ghost use mathlib.Core.Path.{_≡_};
 ghost use Rattle.rules.specs.Call.{countedAs, countOutcome};
-ghost use Rattle.m95_c.specs.StateBytes.{version};
+ghost use Rattle.state_bytes.specs.StateBytes.{version};
 ghost use Rattle.m95_c.specs.Left.{deviceOf, buffersOf, buffersRefusal, preparedAs, prepareLeft, loadedAs, loadLeft, repliedAs, eventLeft, ranAs, runLeft};
 use numbers::byte_for;
 use numbers::device_of;
 use numbers::event_of;
 use numbers::event_refused;
-use putting::put_state;
-use reading::no_state;
-use reading::state_of;
 use rules::Stored;
+use state_bytes::no_state;
+use state_bytes::put_state;
+use state_bytes::state_of;
 
 mod numbers;
-mod putting;
-mod reading;
 pub mod showing;
 
 // Which bytes a state is: another number where one of them means something else.

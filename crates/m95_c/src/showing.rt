@@ -6,11 +6,11 @@ ghost use Rattle.rules.specs.Device.{rowOf};
 ghost use Rattle.m95_c.specs.Left.{sizesOf, searchedAs, blankLeft, toldAs, statusLeft, keptAs, storedLeft, partStart, placedAs, viewLeft};
 use crate::numbers::device_of;
 use crate::numbers::region_of;
-use crate::reading::is_state;
-use crate::reading::state_of;
 use lent::judging::memory_refused;
 use rules::Blank;
 use rules::Region;
+use state_bytes::is_state;
+use state_bytes::state_of;
 
 // How many cells a device has, how many bytes a page of it, how many its identification page, which may have none, and how many pages its cells make.
 pub struct Sizes {

@@ -1,0 +1,2 @@
+-- Which byte of a state is what.
+pub mod StateBytes
