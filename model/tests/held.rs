@@ -56,6 +56,16 @@ fn command_unheld(board: &mut Board, bytes: &[u8]) {
     board.set(FALL);
 }
 
+/// A device in hold, C low, that has received a WRITE of 42h to cell 0 with WEL set.
+fn written_and_held(number: u8) -> Board {
+    let mut board = Board::new(number);
+    board.command(&[0x06]);
+    board.select();
+    board.bytes(&[0x02, 0x00, 0x00, 0x42]);
+    board.set(HOLD_LOW);
+    board
+}
+
 /// A code, an address in as many bytes as the device has, and data.
 fn command(board: &Board, code: u8, address: usize, data: &[u8]) -> Vec<u8> {
     let places = (0..board.device.address_bytes).rev();
@@ -475,11 +485,7 @@ fn a_held_write_of_more_than_a_page_rolls_round() {
 #[test]
 fn afterwards_hold_low_holds_nothing_until_s_falls() {
     for number in WRITING {
-        let mut board = Board::new(number);
-        board.command(&[0x06]);
-        board.select();
-        board.bytes(&[0x02, 0x00, 0x00, 0x42]);
-        board.set(HOLD_LOW);
+        let mut board = written_and_held(number);
         board.deselect();
         let state = &board.state;
         assert!(!state.held && !state.hold && !state.selected);
@@ -506,11 +512,7 @@ fn afterwards_hold_low_holds_nothing_until_s_falls() {
 #[test]
 fn afterwards_a_fall_of_s_with_c_high_is_not_held() {
     for number in WRITING {
-        let mut board = Board::new(number);
-        board.command(&[0x06]);
-        board.select();
-        board.bytes(&[0x02, 0x00, 0x00, 0x42]);
-        board.set(HOLD_LOW);
+        let mut board = written_and_held(number);
         board.set(RISE);
         board.deselect();
         board.select();
@@ -540,11 +542,7 @@ fn the_cycle_is_as_any_other() {
 #[test]
 fn power_in_hold_loses_a_complete_write() {
     for number in WRITING {
-        let mut board = Board::new(number);
-        board.command(&[0x06]);
-        board.select();
-        board.bytes(&[0x02, 0x00, 0x00, 0x42]);
-        board.set(HOLD_LOW);
+        let mut board = written_and_held(number);
         board.set(Event::Power);
         board.deselect();
         board.set(HOLD_HIGH);
