@@ -40,7 +40,7 @@ isWhole s = eqb (s .input .bits) 0
 abbrev pub isComplete : Row → State → Bool
 isComplete row s = not (s .command .away) && isWhole s && allows row s (facts (s .command .instruction) .starts)
 
--- In hold a command is dropped; with W-206 a write is not where the row triggers.
+-- In hold a command is dropped, but for a write where the row triggers (W-206).
 abbrev pub isDropped : Row → State → Bool
 isDropped row s = s .selection .held && not (row .triggers && isWrite (s .command .instruction))
 
