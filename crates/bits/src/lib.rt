@@ -1,6 +1,8 @@
 // Bits by mask and shift: of codes, addresses, the status byte and the numbers of a record, taken apart and put together. Each is tied to the
 // arithmetic of the rules by a law over the width (proofs/Masks.antt).
 
+#![tactic(auto)]
+
 ghost use Rattle.std.specs.Prelude.{◌≡◌, ◌+◌, ◌-◌, ◌*◌, ◌/◌, ◌%◌, ◌<◌};
 ghost use Rattle.rules.specs.World.{bit, number};
 ghost use Rattle.rules.specs.Device.{Widths};

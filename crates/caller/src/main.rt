@@ -1,6 +1,8 @@
 // Calls each public call of the library on good and bad input, and holds its answers. Every `expect` is proved from the contracts
 // alone, so a caller who knows nothing else can use them.
 
+#![tactic(auto)]
+
 mod pages;
 mod preparing;
 mod running;

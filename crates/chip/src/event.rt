@@ -256,7 +256,7 @@ pub fn refused(row: Row, s: State, cells: &[u8], counts: &[u16], event: Event) -
 }
 
 // What an event gives: the number that it is refused with and the state as it was, or 0 and the state after it.
-#[derive(Drop)]
+#[derive(Clone, Copy)]
 pub struct Tried {
     pub number: usize,
     pub state: State,

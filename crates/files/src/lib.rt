@@ -1,9 +1,11 @@
 // Reading from a descriptor until a buffer is full, told apart from a read that fails.
 
+#![tactic(auto)]
+
 ghost use Rattle.io.specs.Counts.{IsPrefixLen};
 
 // How many bytes came to the start of the buffer, and whether a read failed before the buffer was full or the input ended.
-#[derive(Drop)]
+#[derive(Clone, Copy)]
 pub struct Read {
     pub count: usize,
     pub failed: bool,

@@ -36,7 +36,7 @@ pub fn count_pages(device: u8, cells: &[u8], counts: &mut [u16]) -> usize
 }
 
 // What a device's counts say: a number, and the first blank page.
-#[derive(Drop)]
+#[derive(Clone, Copy)]
 pub struct Found {
     pub number: usize,
     pub blank: Blank,

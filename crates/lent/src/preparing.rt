@@ -12,7 +12,7 @@ use rules::{
 };
 
 // What preparing and loading give back: the number, and the state.
-#[derive(Drop)]
+#[derive(Clone, Copy)]
 pub struct Prepared {
     pub number: usize,
     pub state: State,

@@ -2,6 +2,8 @@
 // and its contract says its whole answer and the whole contents of every lent buffer as one function of the input: the outcomes of
 // rules/specs/Call.antt.
 
+#![tactic(auto)]
+
 ghost use Rattle.std.specs.Prelude.{◌≡◌};
 ghost use Rattle.rules.specs.World.{world_of};
 ghost use Rattle.rules.specs.Send.{status_byte};
@@ -20,7 +22,7 @@ pub use lent::preparing::{Prepared, prepare, prepared_state};
 pub use pages::view;
 
 // What an event gives back: its number, the answer (0, 1, or 2 for Z), and the state.
-#[derive(Drop)]
+#[derive(Clone, Copy)]
 pub struct Replied {
     pub number: usize,
     pub answer: usize,

@@ -2,6 +2,8 @@
 // any numbers and any buffers, and its contract says its whole answer and all that it leaves in them (specs/Left.antt). Those that show a
 // size, the first blank page, the status, what is stored or a page are in `showing`.
 
+#![tactic(auto)]
+
 ghost use Rattle.std.specs.Prelude.{◌≡◌};
 ghost use Rattle.rules.specs.Call.{counted_as, count_outcome};
 ghost use Rattle.state_bytes.specs.StateBytes.{version};

@@ -11,7 +11,7 @@ use rules::{Blank, Region};
 use state_bytes::{is_state, state_of};
 
 // How many cells a device has, how many bytes a page of it, how many its identification page, which may have none, and how many pages its cells make.
-#[derive(Drop)]
+#[derive(Clone, Copy)]
 pub struct Sizes {
     pub cells: usize,
     pub page: usize,

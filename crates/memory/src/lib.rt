@@ -1,5 +1,7 @@
 // Loops over lent bytes: filling, clearing the latch's marks, testing them, and the marked bytes on their way to their places.
 
+#![tactic(auto)]
+
 ghost use Rattle.std.specs.Prelude.{◌≡◌, ◌++◌, ◌+◌, ◌-◌, ◌≤◌, length, replicate, drop};
 ghost use Rattle.rules.specs.Device.{Widths, code};
 ghost use Rattle.rules.specs.Receive.{cleared};

@@ -1,5 +1,7 @@
 // A page shown without copying: a part of one of the two lent slices, and its number. `m95` hands the call on as its own.
 
+#![tactic(auto)]
+
 ghost use Rattle.std.specs.Prelude.{◌-◌, ◌%◌, ◌<◌, ◌≡◌, length, take, drop};
 ghost use Rattle.rules.specs.Device.{Widths};
 ghost use Rattle.rules.specs.Call.{is_past, shown_as, view_outcome};

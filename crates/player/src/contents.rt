@@ -8,7 +8,7 @@ ghost use Rattle.player.specs.File.{said_as, said};
 use rules::{Row, Stored};
 
 // What is wrong with a chip's file.
-#[derive(Drop)]
+#[derive(Clone, Copy)]
 pub enum Fault {
     None,
     Unread,
@@ -16,7 +16,7 @@ pub enum Fault {
 }
 
 // What a chip's file says beside its cells and its identification page.
-#[derive(Drop)]
+#[derive(Clone, Copy)]
 pub struct Said {
     pub fault: Fault,
     pub stored: Stored,

@@ -11,7 +11,7 @@ use rules::State;
 
 // Where a run stands: the number, if it has ended; what was done; the bytes in the buffer that are still to run; and whether a read
 // or a write failed.
-#[derive(Drop)]
+#[derive(Clone, Copy)]
 pub struct Played {
     pub number: usize,
     pub filled: usize,

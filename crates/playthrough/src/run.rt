@@ -70,7 +70,7 @@ fn play_into(
 }
 
 // A trace, and how much of it is in the buffer. There is no descriptor where it cannot be read.
-#[derive(Drop)]
+#[derive(Clone, Copy)]
 struct Begun {
     pub input: i32,
     pub count: usize,

@@ -7,7 +7,7 @@ use crate::vector::Header;
 use traces::records::Ran;
 
 // How many vectors were run, and how many differ.
-#[derive(Drop)]
+#[derive(Clone, Copy)]
 pub struct Tally {
     pub run: u64,
     pub different: u64,

@@ -5,7 +5,7 @@ ghost use Rattle.std.specs.Prelude.{◌≡◌, ◌+◌, ◌<◌, ◌≤◌, leng
 ghost use Rattle.replay.specs.Vector.{Short, size_of};
 
 // What a header says: the device, how the run ends, and how long the parts are.
-#[derive(Drop)]
+#[derive(Clone, Copy)]
 pub struct Header {
     pub device: u8,
     pub number: usize,

@@ -67,7 +67,7 @@ prepared-lent {row} v =
 -- Events that are kept one and all.
 keeping : {row : Row} {w : World} {fs ks : List Event} (es : List Event) → Cut row (after row es w) fs ks → Cut row w (es ++ fs) (es ++ ks)
 keeping [] c = c
-keeping (e ∷ es) c = keep e (keeping es c)
+keeping {row = row} {w = w} (e ∷ es) c = keep e (keeping {w = next row e w} es c)
 
 inside-bits : {es ks : List Event} (n b : ℕ) → Inside es ks → Inside (bits_in n b ++ es) (bits_in n b ++ ks)
 inside-bits zero b i = i

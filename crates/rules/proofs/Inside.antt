@@ -137,7 +137,7 @@ module _ {row : Row} (v : Widths row) where
   run_in end k e g = (k, e, g, λ r. r)
   run_in {n} {w} (clock b i) k e g =
       let p = next-sound v (Event.Clock b) w k e in
-      run_in i p.0 p.1 (clock-in b k.unsettled e g)
+      run_in {n = if decodes w.state && not w.state.pins.c && b then suc n else n} i p.0 p.1 (clock-in b k.unsettled e g)
   run_in {n} (input b i) k e (twin w l y m on c h) =
       let p = next-sound v (Event.Data b) w k e in
       run_in i p.0 p.1 (uncounted w (next row (Event.Data b) w) (settled-in (twin (pinned (Event.Data b) w) l y m on c h)))

@@ -73,7 +73,7 @@ module _ (row : Row) (t : List ℕ) where
 
   pub run-abreast : {p q : Progress} (limit : ℕ) → Abreast row p q → Abreast row (run limit row t p) (run limit row t q)
   run-abreast zero g = g
-  run-abreast (suc limit) g = run-abreast limit (turn-abreast g)
+  run-abreast {p = p} {q = q} (suc limit) g = run-abreast {p = turn row t p} {q = turn row t q} limit (turn-abreast g)
 
 pub abreast-seen : {row : Row} {p q : Progress} → Abreast row p q → seen p ≡ seen q
 abreast-seen (abreast n at k answers g) = ap (λ (c : Contents). record { number = n; taken = at; done = k; contents = c; answers = answers }) g.stored

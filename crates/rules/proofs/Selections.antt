@@ -160,9 +160,9 @@ module _ {row : Row} (v : Widths row) where
 
   pub sights-same : {w t : World} (es : List Event) → Sound row w → Lent row w → Same row w t → sights row es w ≡ sights row es t
   sights-same [] k l g = refl
-  sights-same {w} (e ∷ es) k l g =
+  sights-same {w} {t} (e ∷ es) k l g =
       let n = next-sound v e w k l in
-      ap₂ {A = Visible} {B = List Visible} {C = List Visible} ◌∷◌ (visible-same e v l g) (sights-same es n.0 n.1 (next-same e v l g))
+      ap₂ {A = Visible} {B = List Visible} {C = List Visible} ◌∷◌ (visible-same e v l g) (sights-same {w = next row e w} {t = next row e t} es n.0 n.1 (next-same e v l g))
 
 pub same_self : {row : Row} (w : World) → Same row w w
 same_self w = same w w.latch refl (λ _ i _. (refl, λ _. refl))

@@ -176,4 +176,4 @@ visible-spent row e g = let m = next-spent row e g in rw (refusal-spent row e g,
 
 pub sights-spent : {w t : World} (row : Row) (es : List Event) → Spent w t → sights row es w ≡ sights row es t
 sights-spent row [] g = refl
-sights-spent row (e ∷ es) g = ap₂ {A = Visible} {B = List Visible} {C = List Visible} ◌∷◌ (visible-spent row e g) (sights-spent row es (next-spent row e g))
+sights-spent {w = w} {t = t} row (e ∷ es) g = ap₂ {A = Visible} {B = List Visible} {C = List Visible} ◌∷◌ (visible-spent row e g) (sights-spent {w = next row e w} {t = next row e t} row es (next-spent row e g))

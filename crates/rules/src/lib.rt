@@ -1,9 +1,11 @@
 // The types of the bench: a device's row, its state in groups, instructions, cycles, output levels, events.
 // The rules of specs/ are functions on these, and the product's code runs on them.
 
+#![tactic(auto)]
+
 // A line of the service sheet (document 02, W-203): the first protected address under each setting of BP1 and BP0. Under 00, which
 // protects nothing, it is the cell count.
-#[derive(Drop)]
+#[derive(Clone, Copy)]
 pub struct Sheet {
     pub bp00: usize,
     pub bp01: usize,
@@ -13,7 +15,7 @@ pub struct Sheet {
 
 // One row of the device table (document 01, "What the bench models"; document 02, W-202, W-203 and W-206). The identification page has a
 // length of its own: a page, or 0 where the device has none. `triggers`: deselecting in hold starts a complete write.
-#[derive(Drop)]
+#[derive(Clone, Copy)]
 pub struct Row {
     pub cells: usize,
     pub page: usize,
@@ -27,7 +29,7 @@ pub struct Row {
 }
 
 // The instructions of Table 6. Unknown stands for a code that is in no list, and for none received yet.
-#[derive(Drop)]
+#[derive(Clone, Copy)]
 pub enum Instruction {
     Wren,
     Wrdi,
@@ -43,7 +45,7 @@ pub enum Instruction {
 }
 
 // What a running write cycle will change.
-#[derive(Drop)]
+#[derive(Clone, Copy)]
 pub enum Kind {
     None,
     Array,
@@ -53,7 +55,7 @@ pub enum Kind {
 }
 
 // What an instruction sends: nothing, the status, cells, identification bytes, or the lock.
-#[derive(Drop)]
+#[derive(Clone, Copy)]
 pub enum Source {
     Silent,
     Status,
@@ -64,7 +66,7 @@ pub enum Source {
 
 // One row of the instruction table: taken in a cycle too; an address follows; only its place in the page counts; it is of the
 // identification page; what the lock bit makes of it; what it sends; sets WEL; resets WEL; the cycle it starts.
-#[derive(Drop)]
+#[derive(Clone, Copy)]
 pub struct Facts {
     pub taken: bool,
     pub addressed: bool,
@@ -78,7 +80,7 @@ pub struct Facts {
 }
 
 // One row of the table of cycles: whether it runs, and what its end changes.
-#[derive(Drop)]
+#[derive(Clone, Copy)]
 pub struct Change {
     pub runs: bool,
     pub cells: bool,
@@ -88,7 +90,7 @@ pub struct Change {
 }
 
 // How a source goes on from an address: whether it sends at all, the address after, and whether the address is past its end.
-#[derive(Drop)]
+#[derive(Clone, Copy)]
 pub struct Going {
     pub sends: bool,
     pub after: usize,
@@ -96,21 +98,21 @@ pub struct Going {
 }
 
 // What can be looked at: the cells, a page at a time, or the identification page.
-#[derive(Drop)]
+#[derive(Clone, Copy)]
 pub enum Region {
     Cells,
     Identification,
 }
 
 // Where there is room (document 02, W-205): a blank page, by its number, or none.
-#[derive(Drop)]
+#[derive(Clone, Copy)]
 pub enum Blank {
     Page(usize),
     None,
 }
 
 // A level of the output Q.
-#[derive(Drop)]
+#[derive(Clone, Copy)]
 pub enum Level {
     Low,
     High,
@@ -118,7 +120,7 @@ pub enum Level {
 }
 
 // One event at the pins, in time or of the power. No pin but these five can be written.
-#[derive(Drop)]
+#[derive(Clone, Copy)]
 pub enum Event {
     Clock(bool),
     Data(bool),
@@ -130,7 +132,7 @@ pub enum Event {
 }
 
 // The numbers that can be large: the address, and the running cycle's page start and microseconds left.
-#[derive(Drop)]
+#[derive(Clone, Copy)]
 pub struct Place {
     pub address: usize,
     pub start: usize,
@@ -138,7 +140,7 @@ pub struct Place {
 }
 
 // The levels of C, D, S, HOLD and W; true is high.
-#[derive(Drop)]
+#[derive(Clone, Copy)]
 pub struct Pins {
     pub c: bool,
     pub d: bool,
@@ -148,7 +150,7 @@ pub struct Pins {
 }
 
 // Selected or not, held or not, and whether W was seen low in this selection.
-#[derive(Drop)]
+#[derive(Clone, Copy)]
 pub struct Selection {
     pub selected: bool,
     pub held: bool,
@@ -156,7 +158,7 @@ pub struct Selection {
 }
 
 // What came in: bits of the current byte, their value, whole bytes (to 6), and the last whole byte.
-#[derive(Drop)]
+#[derive(Clone, Copy)]
 pub struct Input {
     pub bits: u8,
     pub value: u8,
@@ -165,21 +167,21 @@ pub struct Input {
 }
 
 // The instruction, and whether it was turned away.
-#[derive(Drop)]
+#[derive(Clone, Copy)]
 pub struct Command {
     pub instruction: Instruction,
     pub away: bool,
 }
 
 // The byte being sent, and the level of Q, kept while held.
-#[derive(Drop)]
+#[derive(Clone, Copy)]
 pub struct Output {
     pub sending: u8,
     pub q: Level,
 }
 
 // The stored status bits, WEL, and the lock.
-#[derive(Drop)]
+#[derive(Clone, Copy)]
 pub struct Registers {
     pub status: u8,
     pub wel: bool,
@@ -187,21 +189,21 @@ pub struct Registers {
 }
 
 // What a chip has stored besides its cells and its identification page: the status bits, and 1 where the page is locked.
-#[derive(Drop)]
+#[derive(Clone, Copy)]
 pub struct Stored {
     pub status: u8,
     pub lock: u8,
 }
 
 // The running cycle, and its new status bits.
-#[derive(Drop)]
+#[derive(Clone, Copy)]
 pub struct Cycle {
     pub kind: Kind,
     pub next: u8,
 }
 
 // Three bytes that mean nothing: with them the State fills whole words and has no padding.
-#[derive(Drop)]
+#[derive(Clone, Copy)]
 pub struct Filler {
     pub first: u8,
     pub second: u8,
@@ -209,7 +211,7 @@ pub struct Filler {
 }
 
 // The device's state: three words of numbers, then three words of small fields.
-#[derive(Drop)]
+#[derive(Clone, Copy)]
 pub struct State {
     pub place: Place,
     pub pins: Pins,

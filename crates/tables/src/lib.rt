@@ -1,5 +1,7 @@
 // The tables that every rule reads: devices, instructions with their codes, cycles. Each look-up answers the rules' own row.
 
+#![tactic(auto)]
+
 mod cycles;
 mod devices;
 mod instructions;

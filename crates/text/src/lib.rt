@@ -1,5 +1,7 @@
 // Text into a lent buffer: each function puts its text at a place, and gives back the place after it.
 
+#![tactic(auto)]
+
 ghost use Rattle.std.specs.Prelude.{◌+◌, ◌*◌, ◌≤◌, ◌<◌, ◌≡◌, length};
 ghost use Rattle.rules.specs.Program.{decimal, line, lines, ending, digit as Program·digit, hexadecimal as Program·hexadecimal, shown as Program·shown};
 ghost use Rattle.text.specs.Put.{Put};

@@ -13,7 +13,7 @@ use crate::trace::two_at;
 use rules::{Event, Row, Source, State};
 use wire::{receive, send};
 
-#[derive(Drop)]
+#[derive(Clone, Copy)]
 pub enum Usual {
     Other,
     Data(bool),

@@ -12,7 +12,7 @@ use chip::event::answer;
 use rules::{Row, State};
 
 // What a run gives back: its number, the records done, the bytes taken, and the state.
-#[derive(Drop)]
+#[derive(Clone, Copy)]
 pub struct Ran {
     pub number: usize,
     pub done: usize,

@@ -98,7 +98,7 @@ pub fn refused(trace: &[u8], at: usize, full: bool) -> usize
 }
 
 // One record's turn: its number, the bytes taken and the records done then, and the state.
-#[derive(Drop)]
+#[derive(Clone, Copy)]
 pub struct Turn {
     pub number: usize,
     pub taken: usize,

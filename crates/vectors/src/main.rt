@@ -1,6 +1,8 @@
 // Runs the stored vectors, which the second model made, through the library, and compares answers, numbers, counts, status, lock and
 // every stored byte. A file of data/ for each profile; a line for each profile, and a total.
 
+#![tactic(auto)]
+
 use libc::STDOUT_FILENO;
 use replay::compare;
 use replay::compare::Tally;
