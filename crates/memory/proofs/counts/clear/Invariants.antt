@@ -1,0 +1,12 @@
+-- `memory::counts::clear` meets its contract.
+use lib.ListN.{length, replicate, drop}
+use mathlib.Core.List.{◌++◌}
+use mathlib.Core.Path.{◌≡◌}
+use Prim.Native.Nat.{◌-◌, ◌≤◌}
+use Rattle.memory.proofs.counts.clear.Given as goal
+
+abbrev pub invariant-loop-i : goal.invariant-loop-i
+invariant-loop-i l = (l.i-end ≡ length l.initial.counts) × (l.i ≤ length l.initial.counts) × (length l.counts ≡ length l.initial.counts) × (l.counts ≡ replicate l.i 0 ++ drop l.i l.initial.counts)
+
+abbrev pub decreases-loop-i : goal.decreases-loop-i
+decreases-loop-i l = length l.initial.counts - l.i
