@@ -76,7 +76,7 @@ fn put_numbers(room: &mut [u8], place: Place)
         byte_of(place.left, 16),
         byte_of(place.left, 24),
     ];
-    bytes::copy(&numbers, room);
+    room.copy_from_slice(&numbers);
 }
 
 // Puts the eleven flags.
@@ -97,7 +97,7 @@ fn put_flags(room: &mut [u8], s: State)
         s.registers.wel as u8,
         s.registers.locked as u8,
     ];
-    bytes::copy(&flags, room);
+    room.copy_from_slice(&flags);
 }
 
 // Puts the other bytes.
@@ -126,7 +126,7 @@ fn put_others(room: &mut [u8], s: State)
         s.filler.second,
         s.filler.third,
     ];
-    bytes::copy(&others, room);
+    room.copy_from_slice(&others);
 }
 
 // Puts a state.
