@@ -74,10 +74,6 @@ module _ (b : List ℕ) {t : Bool} (e : t ≡ is_state b) where
 pub eight_bits : (n k : ℕ) → bit_and (n / 2 ^ k) 255 ≡ byte_of n k
 eight_bits n k = within 8 (n / 2 ^ k) 256 refl
 
--- A list put over as many bytes.
-pub put-over : (n : ℕ) (xs room : List ℕ) → length xs ≡ n → length room ≡ n → take n xs ++ drop n room ≡ xs
-put-over n xs room e f = rw (take_all n xs (le_of_eq e), ← f, drop-length room) (append-nil xs)
-
 -- The flags as the code puts them.
 abbrev cast : State → List ℕ
 cast s =
@@ -101,8 +97,8 @@ cast-flags s =
       byte-number s.registers.locked,
     )
 
-pub flags-put : (s : State) (room : List ℕ) {after : List ℕ} → length room ≡ 11 → after ≡ take 11 (cast s) ++ drop 11 room → after ≡ flag_bytes s
-flags-put s room h e = e ∙ put-over 11 (cast s) room refl h ∙ cast-flags s
+pub flags-put : (s : State) {after : List ℕ} → after ≡ cast s → after ≡ flag_bytes s
+flags-put s e = e ∙ cast-flags s
 
 -- The three parts put one after the other.
 pub parts-put : (s : State) (room : List ℕ) {numbers flags others : List ℕ}

@@ -3,5 +3,4 @@ use Rattle.state_bytes.proofs.Packing.{flags-put}
 use Rattle.state_bytes.proofs.putting.put_flags.Goals as goal
 
 pub returns : goal.returns
-returns c =
-    flags-put c.args.s c.args.room.now c.requires c.copy.ensures.1
+returns c = flags-put c.args.s c.copy_from_slice.ensures.after

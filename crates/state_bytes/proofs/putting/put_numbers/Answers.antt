@@ -1,12 +1,12 @@
 -- `state_bytes::putting::put_numbers` meets its contract.
-use mathlib.Core.Path.{refl, ◌∙◌}
-use Rattle.state_bytes.proofs.Packing.{put-over, four-put, numbers-put}
+use mathlib.Core.Path.{◌∙◌}
+use Rattle.state_bytes.proofs.Packing.{four-put, numbers-put}
 use Rattle.state_bytes.proofs.putting.put_numbers.Goals as goal
 
 pub returns : goal.returns
 returns c =
     let place = c.args.place in
-    c.copy.ensures.1 ∙ put-over 12 _ c.args.room.now refl c.requires
+    c.copy_from_slice.ensures.after
     ∙ numbers-put place
     (four-put place.address c.byte_of.ensures c.byte_of-2.ensures c.byte_of-3.ensures c.byte_of-4.ensures)
     (four-put place.start c.byte_of-5.ensures c.byte_of-6.ensures c.byte_of-7.ensures c.byte_of-8.ensures)
