@@ -19,7 +19,7 @@ use Rattle.rules.specs.Call.{memory_refusal, lent_refusal, world_refusal, part_o
 use Rattle.rules.proofs.Widths.{of-device}
 use Rattle.m95.proofs.Calling.{fine}
 use Rattle.state_bytes.specs.StateBytes.{is_state, state_of, bytes_of}
-use Rattle.state_bytes.proofs.Back.{is_state, state-back}
+use Rattle.state_bytes.proofs.Back.{is_state_lem, state-back}
 use Rattle.m95_c.specs.Left.{device_of, Buffers, buffers_refusal, is_region, region_of, slice_of, part_start, placed_as, view_left}
 
 -- A state that was put is the state that is read: the numbers of a device that is not refused fit their bytes.
@@ -28,7 +28,7 @@ unfolding state_of
 read_back device w z =
     let sound = (fine device w z).0.unsettled in
     let fits = (of-device device).cells_most in
-    rw (is_state w.state)
+    rw (is_state_lem w.state)
     (state-back w.state (omega (arith, sound.inside, fits)) (omega (arith, sound.cycle.inside, fits)) (left (changes w.state.cycle.kind).runs refl))
   where
     left : (t : Bool) → (changes w.state.cycle.kind).runs ≡ t → w.state.place.left < 2 ^ 32

@@ -46,9 +46,7 @@ shape_of-cells c =
 
 pub shape_of-identification : goal.shape_of-identification
 shape_of-identification c =
-    let at-identification =
-    c in
-    c.identification-2-1.given ∙ at-identification.identification.given
+    c.identification-2-1.given ∙ c.identification-1.given
 
 pub shape_of-latch : goal.shape_of-latch
 shape_of-latch c =

@@ -16,7 +16,7 @@ size_of-size-requires c = c.header_at-h.ensures
 
 pub is_good_here-requires : goal.is_good_here-requires
 is_good_here-requires c =
-    (omega (arith, c.if-left-size.false, c.loop-at.invariant, c.type_size.ensures), c.requires)
+    (omega (arith, c.if-left-size.false, c.loop-at.invariant, c.size_of-size.ensures), c.requires)
 
 pub overflow_add-at : goal.overflow_add-at
 overflow_add-at c =
@@ -24,7 +24,7 @@ overflow_add-at c =
 
 pub loop-at-smaller : goal.loop-at-smaller
 loop-at-smaller c =
-    omega (arith, c.if-left-size.false, c.loop-at.invariant, c.type_size.ensures)
+    omega (arith, c.if-left-size.false, c.loop-at.invariant, c.size_of-size.ensures)
 
 pub loop-at-preserved : goal.loop-at-preserved
 loop-at-preserved c =

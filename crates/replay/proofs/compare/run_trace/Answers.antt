@@ -11,10 +11,7 @@ overflow_add-end c =
     omega (arith, c.requires.0, c.requires.1)
 
 pub slice_bounds-run-end : goal.slice_bounds-run-end
-slice_bounds-run-end c =
-    let start =
-    c in
-    start.pre.0
+slice_bounds-run-end c = c.requires.0
 
 pub shape_of-cells : goal.shape_of-cells
 shape_of-cells c =
