@@ -37,16 +37,17 @@ loop-i-preserved c =
     let l = c.loop-i in
     let a = c.args in
     elim c.if-latch-page-eq1.branch [
-      then-latch-page-eq1 w ↦ (
-          omega arith,
-          ap length w.bytes-is ∙ simp length-set l.invariant.1,
-          cc (written-set a.row.page a.latch.now a.start a.bytes.now l.i (omega arith)),
-        )
-    | else-latch-page-eq1 w ↦ (
-          omega arith,
-          ap length w.bytes-is ∙ l.invariant.1,
-          cc (written-keep a.row.page a.latch.now a.start a.bytes.now l.i (omega arith)),
-        ) ]
+      | then-latch-page-eq1 w ↦ (
+        omega arith,
+        ap length w.bytes-is ∙ simp length-set l.invariant.1,
+        cc (written-set a.row.page a.latch.now a.start a.bytes.now l.i (omega arith)),
+      )
+      | else-latch-page-eq1 w ↦ (
+        omega arith,
+        ap length w.bytes-is ∙ l.invariant.1,
+        cc (written-keep a.row.page a.latch.now a.start a.bytes.now l.i (omega arith)),
+      )
+    ]
 
 pub shape_of-bytes : goal.shape_of-bytes
 shape_of-bytes c = omega arith

@@ -30,10 +30,11 @@ loop-i-preserved c =
     let l = c.loop-i in
     let a = c.args in
     elim c.if-cells-start.branch [
-      then-cells-start w ↦
-        let more = filled_more a.cells.now a.start l.i (omega arith) in (omega arith, omega arith, omega arith)
-    | else-cells-start w ↦
-        let kept = filled-kept a.cells.now a.start l.i (omega arith) in (omega arith, omega arith, omega arith) ]
+      | then-cells-start w ↦
+          let more = filled_more a.cells.now a.start l.i (omega arith) in (omega arith, omega arith, omega arith)
+      | else-cells-start w ↦
+          let kept = filled-kept a.cells.now a.start l.i (omega arith) in (omega arith, omega arith, omega arith)
+    ]
 
 pub returns : goal.returns
 returns c = let e : c.loop-i.i ≡ c.args.row.page = omega arith in cc

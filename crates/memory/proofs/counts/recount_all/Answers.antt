@@ -28,13 +28,12 @@ pub loop-page-smaller : goal.loop-page-smaller
 loop-page-smaller c = omega arith
 
 pub loop-page-preserved : goal.loop-page-preserved
-loop-page-preserved c =
-    (
-      c.loop-page.invariant.0,
-      omega arith,
-      ap length c.recount.ensures ∙ simp length-set c.loop-page.invariant.2,
-      cc (recounted-next c.loop-page.page c.args.row c.args.cells.now c.args.counts.now),
-    )
+loop-page-preserved c = (
+  c.loop-page.invariant.0,
+  omega arith,
+  ap length c.recount.ensures ∙ simp length-set c.loop-page.invariant.2,
+  cc (recounted-next c.loop-page.page c.args.row c.args.cells.now c.args.counts.now),
+)
 
 pub shape_of-counts : goal.shape_of-counts
 shape_of-counts c = omega arith

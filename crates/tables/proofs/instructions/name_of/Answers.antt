@@ -1,8 +1,5 @@
 -- `tables::instructions::name_of` meets its contract.
-use mathlib.Core.Path.{◌≡◌}
-use Rattle.rules.specs.declared.Instruction.{Instruction}
-use Rattle.rules.specs.Instruction.{named}
-use Rattle.tables.proofs.Looks.{named-rdid, named-wrid, plainly, named-plain, plain-none}
+use Rattle.tables.proofs.Looks.{named-rdid, named-wrid, named-plain, plain-none}
 use Rattle.tables.proofs.instructions.name_of.Goals as goal
 
 pub returns-then-code-eq131 : goal.returns-then-code-eq131

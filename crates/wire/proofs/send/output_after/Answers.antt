@@ -9,13 +9,12 @@ returns-then-g c =
     c.if-g.true
 
 pub byte_of-byte-requires : goal.byte_of-byte-requires
-byte_of-byte-requires c =
-    (
-      c.requires.2,
-      omega (arith, c.requires.3, c.requires.4),
-      c.requires.5,
-      not-past c.args.row c.args.address c.source_of-source.result c.going_on-g.ensures c.if-g.false,
-    )
+byte_of-byte-requires c = (
+  c.requires.2,
+  omega (arith, c.requires.3, c.requires.4),
+  c.requires.5,
+  not-past c.args.row c.args.address c.source_of-source.result c.going_on-g.ensures c.if-g.false,
+)
 
 pub returns-then-s-eq0 : goal.returns-then-s-eq0
 returns-then-s-eq0 c =
