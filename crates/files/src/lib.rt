@@ -73,10 +73,12 @@ pub fn remove<R: Files>(rt: &R, path: &[u8]) -> std::io::Result<()> {
     fs::remove_file(rt, text_of(path)?)
 }
 
-// The end of a line that says what failed: with which file, and why, in the C library's words.
-pub fn fail<E: Print>(errors: &E, path: &[u8], error: Error) -> std::io::Result<()> {
-    errors.write_all(path)?;
-    errors.write_all(b": ")?;
-    reason::print_reason(errors, error)?;
-    errors.write_all(b"\n")
+// The end of a line that says what failed: with which file, and why, in the C library's words. What cannot be written is left out.
+pub fn fail<E: Print>(errors: &E, path: &[u8], error: Option<Error>) {
+    let _ = errors.write_all(path);
+    if let Some(reason) = error {
+        let _ = errors.write_all(b": ");
+        let _ = reason::print_reason(errors, reason);
+    }
+    let _ = errors.write_all(b"\n");
 }

@@ -3,6 +3,7 @@
 use crate::say::fail;
 use player::contents;
 use player::pieces::Played;
+use std::rt::Files;
 
 // Whether a run left the chip as it was: its first record was refused.
 fn is_untouched(played: Played) -> bool {
@@ -11,33 +12,41 @@ fn is_untouched(played: Played) -> bool {
 
 // Puts the chip's new contents into CHIP's place by way of NEW, open as `fresh`, and answers whether the run can be told. After any
 // trouble, and where no record was done, NEW is removed and CHIP stays as it is.
-pub fn replace(
+pub fn replace<R: Files, E: Print>(
+    rt: &R,
+    errors: &E,
     played: Played,
-    fresh: i32,
+    fresh: R::File,
     cells: &[u8],
     identification: &[u8],
     new: &[u8],
     chip: &[u8],
 ) -> bool {
     if played.unread | played.unwritten {
-        os::unlink(new);
+        let _ = files::remove(rt, new);
         return false;
     }
     if is_untouched(played) {
-        os::unlink(new);
+        let _ = files::remove(rt, new);
         return true;
     }
     let state = played.state;
     let stored = m95::stored(state);
-    if !contents::store(fresh, cells, identification, stored) {
-        fail(b"play: cannot write the chip's new contents ", new);
-        os::unlink(new);
+    let mut open = fresh;
+    if let Err(error) = contents::store(&mut open, cells, identification, stored) {
+        fail(
+            errors,
+            b"play: cannot write the chip's new contents ",
+            new,
+            Some(error),
+        );
+        let _ = files::remove(rt, new);
         return false;
     }
-    libc::close(fresh);
-    if os::rename(new, chip) != 0 {
-        fail(b"play: cannot replace the chip ", chip);
-        os::unlink(new);
+    drop(open);
+    if let Err(error) = files::rename(rt, new, chip) {
+        fail(errors, b"play: cannot replace the chip ", chip, Some(error));
+        let _ = files::remove(rt, new);
         return false;
     }
     true
