@@ -7,7 +7,7 @@ ghost use Rattle.rules.specs.Device.{is_device};
 ghost use Rattle.rules.specs.Call.{lent_refusal};
 ghost use Rattle.player.specs.Playing.{Playable};
 
-use crate::chip::replace;
+use crate::replacing::replace;
 use crate::say::{fail, is_faulty, is_unstorable, tell, tell_kind_16};
 use player::pieces::Played;
 use player::{contents, pieces};
