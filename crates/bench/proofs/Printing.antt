@@ -56,6 +56,9 @@ pub record Headed (input : List ℕ) : Type 0 where
   pub size : two input 0 ≡ 3
   pub body : 5 ≤ length input
 
+pub headed : {input : List ℕ} {kind size : ℕ} → length input ≤ 32_768 → 4 ≤ length input → kind ≡ two input 2 → kind ≡ 16 → size ≡ two input 0 → size ≡ 3 → 5 ≤ length input → Headed input
+headed fits head ek k es s body = record { fits = fits; head = head; kind = sym ek ∙ k; size = sym es ∙ s; body = body }
+
 module _ {input : List ℕ} (k : Headed input) where
   pub first_below : get_or input 4 0 < 1 → 1 ≡ (first_record input).number
   unfolding first_record

@@ -4,9 +4,7 @@
 
 mod program;
 
-use libc::{STDERR_FILENO, STDIN_FILENO, STDOUT_FILENO};
-
-fn main() {
+fn main(rt: HostRuntime) {
     let mut cells = [0xFFu8; 16384];
     let mut identification = [0u8; 64];
     let mut latch = [0u8; 128];
@@ -14,12 +12,10 @@ fn main() {
     let mut input = [0u8; 32769];
     let mut answers = [0u8; 32768];
     let mut out = [0u8; 196608];
-    let read = files::read_up(STDIN_FILENO, &mut input);
+    let mut source = rt.stdin();
+    let read = files::read_up(&mut source, &mut input);
     if read.failed {
-        io::write_all(
-            STDERR_FILENO,
-            b"bench: standard input could not be read to its end; nothing was run\n",
-        );
+        let _ = rt.eprint("bench: standard input could not be read to its end; nothing was run\n");
         return;
     }
     let count = read.count;
@@ -32,10 +28,7 @@ fn main() {
         &mut answers,
         &mut out,
     );
-    if !io::write_all(STDOUT_FILENO, &out[..n]) {
-        io::write_all(
-            STDERR_FILENO,
-            b"bench: standard output could not be written to its end\n",
-        );
+    if rt.write_all(&out[..n]).is_err() {
+        let _ = rt.eprint("bench: standard output could not be written to its end\n");
     }
 }

@@ -12,90 +12,120 @@ mod words;
 use playthrough::room::ask_device;
 use playthrough::run::play_device;
 use playthrough::say::complain;
-use words::{device_named, is_same, is_twice};
+use std::fs::OpenOptions;
+use std::os::fd::AsRawFd;
+use std::rt::{Env, Files};
+use words::{count_words, device_named, is_same, is_twice, word_at};
 
 // Says which devices there are.
-fn name_devices() {
+fn name_devices<E: Print>(errors: &E) {
     complain(
+        errors,
         b"play: DEVICE is 1 (M95040), 2 (M95128-D), 3 (M95M01), 4 (M95M02), 5 (M95010), 6 (M95020) or 7 (M95128)\n",
     );
 }
 
 // Says how play is used.
-fn name_words() {
+fn name_words<E: Print>(errors: &E) {
     complain(
+        errors,
         b"play: it takes five words, DEVICE CHIP TRACE ANSWERS NEW, or three, blank DEVICE CHIP; './run play' takes the first four of the five, and makes NEW\n",
     );
 }
 
 // Plays the trace, if the words are good.
-fn play(word: &[u8], chip: &[u8], trace: &[u8], answers: &[u8], new: &[u8]) {
+fn play<R: Files + Print, E: Print>(
+    rt: &R,
+    errors: &E,
+    word: &[u8],
+    chip: &[u8],
+    trace: &[u8],
+    answers: &[u8],
+    new: &[u8],
+) {
     let device = device_named(word);
     if device == 0 {
-        name_devices();
+        name_devices(errors);
         return;
     }
     if (chip.len() == 0) | (trace.len() == 0) | (answers.len() == 0) | (new.len() == 0) {
-        complain(b"play: the name of a file is empty, or longer than 4096 bytes\n");
+        complain(
+            errors,
+            b"play: the name of a file is empty, or longer than 4096 bytes\n",
+        );
         return;
     }
     if is_twice(chip, trace, answers, new) {
-        complain(b"play: CHIP, TRACE, ANSWERS and NEW must be four files\n");
+        complain(
+            errors,
+            b"play: CHIP, TRACE, ANSWERS and NEW must be four files\n",
+        );
         return;
     }
-    play_device(device, chip, trace, answers, new);
+    play_device(rt, errors, device, chip, trace, answers, new);
 }
 
 // Says where there is room on a chip, if the words are good.
-fn ask(what: &[u8], word: &[u8], chip: &[u8]) {
+fn ask<R: Files + Print, E: Print>(rt: &R, errors: &E, what: &[u8], word: &[u8], chip: &[u8]) {
     if !is_same(what, b"blank") {
-        name_words();
+        name_words(errors);
         return;
     }
     let device = device_named(word);
     if device == 0 {
-        name_devices();
+        name_devices(errors);
         return;
     }
     if chip.len() == 0 {
-        complain(b"play: the name of CHIP is empty, or longer than 4096 bytes\n");
+        complain(
+            errors,
+            b"play: the name of CHIP is empty, or longer than 4096 bytes\n",
+        );
         return;
     }
-    ask_device(device, chip);
+    ask_device(rt, errors, device, chip);
 }
 
-// Opens a descriptor where standard input, output or error is closed, so that no file of ours gets one of their numbers.
-fn occupy() {
-    let fd = os::open_update(b"/dev/null");
-    if 2 < fd {
-        libc::close(fd);
+// Opens a descriptor where standard input, output or error is closed, so that no file of ours gets one of their numbers. It is then never
+// closed.
+fn occupy(rt: &HostRuntime) {
+    let opened = OpenOptions::new()
+        .read(true)
+        .write(true)
+        .open(rt, "/dev/null");
+    if let Ok(file) = opened {
+        if file.as_raw_fd() <= 2 {
+            std::mem::forget(file);
+        }
     }
 }
 
 // Reads the words of a question, and asks it.
-fn ask_words() {
+fn ask_words<R: Env + Files + Print, E: Print>(rt: &R, errors: &E) {
     let mut what = io::buffer();
     let mut word = io::buffer();
     let mut chip = io::buffer();
-    let q = os::arg(1, &mut what);
-    let w = os::arg(2, &mut word);
-    let c = os::arg(3, &mut chip);
-    ask(&what[..q], &word[..w], &chip[..c]);
+    let q = word_at(rt, 1, &mut what);
+    let w = word_at(rt, 2, &mut word);
+    let c = word_at(rt, 3, &mut chip);
+    ask(rt, errors, &what[..q], &word[..w], &chip[..c]);
 }
 
 // Reads the words of a run, and plays it.
-fn play_words() {
+fn play_words<R: Env + Files + Print, E: Print>(rt: &R, errors: &E) {
     let mut word = io::buffer();
     let mut chip = io::buffer();
     let mut trace = io::buffer();
     let mut answers = io::buffer();
     let mut new = io::buffer();
-    let w = os::arg(1, &mut word);
-    let c = os::arg(2, &mut chip);
-    let t = os::arg(3, &mut trace);
-    let a = os::arg(4, &mut answers);
-    let n = os::arg(5, &mut new);
+    let w = word_at(rt, 1, &mut word);
+    let c = word_at(rt, 2, &mut chip);
+    let t = word_at(rt, 3, &mut trace);
+    let a = word_at(rt, 4, &mut answers);
+    let n = word_at(rt, 5, &mut new);
     play(
+        rt,
+        errors,
         &word[..w],
         &chip[..c],
         &trace[..t],
@@ -104,13 +134,14 @@ fn play_words() {
     );
 }
 
-fn main() {
-    occupy();
-    occupy();
-    occupy();
-    match os::arg_count() {
-        4 => ask_words(),
-        6 => play_words(),
-        _ => name_words(),
+fn main(rt: HostRuntime) {
+    occupy(&rt);
+    occupy(&rt);
+    occupy(&rt);
+    let errors = rt.stderr();
+    match count_words(&rt) {
+        4 => ask_words(&rt, &errors),
+        6 => play_words(&rt, &errors),
+        _ => name_words(&errors),
     }
 }

@@ -6,12 +6,15 @@ ghost use Rattle.rules.specs.Call.{stored_as};
 ghost use Rattle.player.specs.File.{said_as, said};
 
 use rules::{Row, Stored};
+use std::fs::OpenFile;
+use std::io::{Error, ErrorKind, Write};
+use std::rt::Files;
 
-// What is wrong with a chip's file.
+// What is wrong with a chip's file, and why it cannot be read.
 #[derive(Clone, Copy)]
 pub enum Fault {
     None,
-    Unread,
+    Unread(Error),
     Length,
 }
 
@@ -50,15 +53,20 @@ fn judged(row: Row, length: usize, stored: Stored) -> Said
 }
 
 // Reads the cells, the identification page and the two last bytes, and looks for one byte more.
-fn read_said(row: Row, fd: i32, cells: &mut [u8], identification: &mut [u8]) -> Said
+fn read_said<S: std::io::Read>(
+    row: Row,
+    file: &mut S,
+    cells: &mut [u8],
+    identification: &mut [u8],
+) -> Said
     requires { (Widths row) × (length cells.old ≡ row.cells) × (length identification.old ≡ row.identification) }
 {
-    let first = files::read_up(fd, cells);
-    let second = files::read_up(fd, identification);
+    let first = files::read_up(file, cells);
+    let second = files::read_up(file, identification);
     let mut tail = [0u8; 3];
-    let third = files::read_up(fd, &mut tail);
-    if first.failed | second.failed | third.failed {
-        return silent(Fault::Unread);
+    let third = files::read_up(file, &mut tail);
+    if let Some(error) = third.error.or(second.error).or(first.error) {
+        return silent(Fault::Unread(error));
     }
     let stored = Stored {
         status: tail[0],
@@ -68,53 +76,68 @@ fn read_said(row: Row, fd: i32, cells: &mut [u8], identification: &mut [u8]) -> 
 }
 
 // The contents of an open file, which is then closed.
-fn read_closed(row: Row, fd: i32, cells: &mut [u8], identification: &mut [u8]) -> Said
+fn read_closed<S: std::io::Read + Drop>(
+    row: Row,
+    file: S,
+    cells: &mut [u8],
+    identification: &mut [u8],
+) -> Said
     requires { (Widths row) × (length cells.old ≡ row.cells) × (length identification.old ≡ row.identification) }
 {
-    let said = read_said(row, fd, cells, identification);
-    libc::close(fd);
-    said
+    let mut open = file;
+    read_said(row, &mut open, cells, identification)
 }
 
 // The contents of the file at a path; as prepared where there is none.
-pub fn load(row: Row, path: &[u8], cells: &mut [u8], identification: &mut [u8]) -> Said
+pub fn load<R: Files>(
+    rt: &R,
+    row: Row,
+    path: &[u8],
+    cells: &mut [u8],
+    identification: &mut [u8],
+) -> Said
     requires { (Widths row) × (length cells.old ≡ row.cells) × (length identification.old ≡ row.identification) }
 {
-    let fd = os::open_read(path);
-    if fd < 0 {
-        let is_missing = os::errno() == libc::ENOENT;
-        let fault = if is_missing {
-            Fault::None
-        } else {
-            Fault::Unread
-        };
-        return silent(fault);
+    match files::open_read(rt, path) {
+        Ok(file) => read_closed(row, file, cells, identification),
+        Err(error) => {
+            let is_missing = error.kind() == ErrorKind::NotFound;
+            let fault = if is_missing {
+                Fault::None
+            } else {
+                Fault::Unread(error)
+            };
+            silent(fault)
+        }
     }
-    read_closed(row, fd, cells, identification)
 }
 
 // The contents of the file at a path, which has to be there.
-pub fn load_existing(row: Row, path: &[u8], cells: &mut [u8], identification: &mut [u8]) -> Said
+pub fn load_existing<R: Files>(
+    rt: &R,
+    row: Row,
+    path: &[u8],
+    cells: &mut [u8],
+    identification: &mut [u8],
+) -> Said
     requires { (Widths row) × (length cells.old ≡ row.cells) × (length identification.old ≡ row.identification) }
 {
-    let fd = os::open_read(path);
-    if fd < 0 {
-        return silent(Fault::Unread);
+    match files::open_read(rt, path) {
+        Ok(file) => read_closed(row, file, cells, identification),
+        Err(error) => silent(Fault::Unread(error)),
     }
-    read_closed(row, fd, cells, identification)
 }
 
-// Writes the contents whole, and answers whether all of it is in the file.
-pub fn store(fd: i32, cells: &[u8], identification: &[u8], stored: Stored) -> bool {
+// Writes the contents whole. All of it is in the file where there is no error.
+pub fn store<F: Write + OpenFile>(
+    file: &mut F,
+    cells: &[u8],
+    identification: &[u8],
+    stored: Stored,
+) -> std::io::Result<()> {
     let tail = [stored.status, stored.lock];
-    if !io::write_all(fd, cells) {
-        return false;
-    }
-    if !io::write_all(fd, identification) {
-        return false;
-    }
-    if !io::write_all(fd, &tail) {
-        return false;
-    }
-    libc::fsync(fd) == 0
+    file.write_all(cells)?;
+    file.write_all(identification)?;
+    file.write_all(&tail)?;
+    file.sync_all()
 }

@@ -8,9 +8,10 @@ ghost use Rattle.player.specs.Playing.{Playable};
 
 use files::Read;
 use rules::State;
+use std::io::{Error, Write};
 
-// Where a run stands: the number, if it has ended; what was done; the bytes in the buffer that are still to run; and whether a read
-// or a write failed.
+// Where a run stands: the number, if it has ended; what was done; the bytes in the buffer that are still to run; whether a read
+// or a write failed, and why.
 #[derive(Clone, Copy)]
 pub struct Played {
     pub number: usize,
@@ -21,6 +22,7 @@ pub struct Played {
     pub ended: bool,
     pub unread: bool,
     pub unwritten: bool,
+    pub error: Option<Error>,
 }
 
 // The start of a run, with so many bytes in the buffer.
@@ -36,6 +38,7 @@ pub fn started(state: State, filled: usize) -> Played
         ended: false,
         unread: false,
         unwritten: false,
+        error: None,
     }
 }
 
@@ -52,13 +55,14 @@ fn keep(buf: &mut [u8], from: usize, to: usize) -> usize
 }
 
 // Reads on, unless the run is over.
-fn read_on(is_over: bool, trace: i32, buf: &mut [u8]) -> Read
+fn read_on<S: std::io::Read>(is_over: bool, trace: &mut S, buf: &mut [u8]) -> Read
     ensures { IsPrefixLen result.count buf.new }
 {
     if is_over {
         return Read {
             count: 0,
             failed: false,
+            error: None,
         };
     }
     files::read_up(trace, buf)
@@ -66,7 +70,7 @@ fn read_on(is_over: bool, trace: i32, buf: &mut [u8]) -> Read
 
 // Runs what is in the buffer, writes the answers, and reads on. Limit and answer room are as many as there are bytes. The counts agree with
 // the cells, so that no record is refused for one.
-fn play_piece(
+fn play_piece<S: std::io::Read, W: Write>(
     device: u8,
     p: Played,
     cells: &mut [u8],
@@ -75,8 +79,8 @@ fn play_piece(
     counts: &mut [u16],
     buf: &mut [u8],
     answers: &mut [u8],
-    trace: i32,
-    output: i32,
+    trace: &mut S,
+    output: &mut W,
 ) -> Played
     requires playable { Playable device (world_of p.state cells.old identification.old latch.old counts.old) }
     requires filled_in_bounds { (p.filled ≤ length buf.old) × (length buf.old ≤ length answers.old) × (length buf.old ≤ 65536) }
@@ -99,7 +103,8 @@ fn play_piece(
     let number = ran.number;
     let done = ran.done;
     let after = ran.state;
-    let is_written = io::write_all(output, &answers[..done]);
+    let unwritten = output.write_all(&answers[..done]).err();
+    let is_written = unwritten.is_none();
     let left = keep(buf, ran.taken, filled);
     let is_over = (number != 0) & (number != 6) | !is_written;
     let read = read_on(is_over, trace, &mut buf[left..]);
@@ -112,11 +117,12 @@ fn play_piece(
         ended: is_over | (read.count == 0) | read.failed,
         unread: read.failed,
         unwritten: !is_written,
+        error: unwritten.or(read.error),
     }
 }
 
 // Runs piece after piece to the end. The turns are counted down from a number that no run uses up.
-pub fn play_all(
+pub fn play_all<S: std::io::Read, W: Write>(
     device: u8,
     start: Played,
     cells: &mut [u8],
@@ -125,8 +131,8 @@ pub fn play_all(
     counts: &mut [u16],
     buf: &mut [u8],
     answers: &mut [u8],
-    trace: i32,
-    output: i32,
+    trace: &mut S,
+    output: &mut W,
 ) -> Played
     requires playable { (Playable device (world_of start.state cells.old identification.old latch.old counts.old)) × (start.number ≡ 0) }
     requires filled_in_bounds { (start.filled ≤ length buf.old) × (length buf.old ≤ length answers.old) × (length buf.old ≤ 65536) }

@@ -5,23 +5,25 @@ ghost use Rattle.rules.specs.Device.{is_device, row_of, page_count};
 ghost use Rattle.rules.specs.Call.{count_outcome};
 
 use crate::say::{complain, is_faulty, is_unstorable};
-use libc::STDOUT_FILENO;
 use player::contents;
+use std::rt::Files;
 
 // Prints the line on the room in cells that were read.
-fn tell_room(device: u8, cells: &[u8], counts: &mut [u16])
+fn tell_room<P: Print, E: Print>(out: &P, errors: &E, device: u8, cells: &[u8], counts: &mut [u16])
     requires { (count_outcome device cells.now counts.old).number ≡ 0 }
 {
     let mut line = [0u8; 32];
     let length = player::room::put_room(device, cells, counts, &mut line);
-    if !io::write_all(STDOUT_FILENO, &line[..length]) {
-        complain(b"play: standard output cannot be written\n");
+    if out.write_all(&line[..length]).is_err() {
+        complain(errors, b"play: standard output cannot be written\n");
     }
 }
 
 // Prints it for the chip in a file, in buffers of the device's lengths. Contents that a run would refuse are refused here too, and so is a file
 // that is not there: a name that was mistyped must not be answered with page 0 of a new chip.
-fn ask_lent(
+fn ask_lent<R: Files + Print, E: Print>(
+    rt: &R,
+    errors: &E,
     device: u8,
     cells: &mut [u8],
     identification: &mut [u8],
@@ -32,20 +34,20 @@ fn ask_lent(
     requires cells_len { (length cells.old ≡ (row_of device).cells) × (length identification.old ≡ (row_of device).identification) }
 {
     let row = tables::row_of(device);
-    let said = contents::load_existing(row, chip, cells, identification);
+    let said = contents::load_existing(rt, row, chip, cells, identification);
     let fault = said.fault;
-    if is_faulty(fault, chip) {
+    if is_faulty(errors, fault, chip) {
         return;
     }
     let loaded = m95::load(device, said.stored);
-    if is_unstorable(loaded.number) {
+    if is_unstorable(errors, loaded.number) {
         return;
     }
-    tell_room(device, cells, counts);
+    tell_room(rt, errors, device, cells, counts);
 }
 
 // Prints it for a device, in buffers of which as much is lent as the device has cells and pages.
-pub fn ask_device(device: u8, chip: &[u8])
+pub fn ask_device<R: Files + Print, E: Print>(rt: &R, errors: &E, device: u8, chip: &[u8])
     requires { is_device device ≡ true }
 {
     let mut cells = [0xFFu8; 262144];
@@ -56,6 +58,8 @@ pub fn ask_device(device: u8, chip: &[u8])
     let identification_last = row.identification;
     let pages = tables::page_count(row);
     ask_lent(
+        rt,
+        errors,
         device,
         &mut cells[..last],
         &mut identification[..identification_last],

@@ -7,7 +7,7 @@ use native.Mathlib.Nat.{pow-suc, one-le-pow}
 use native.Mathlib.Numerals.{add-one}
 use native.Mathlib.Omega.{arith}
 use lib.ListN.{length, get_or, take, length-append, length-take}
-use lib.Seq.{length-take-le, take-append-add, take-append-le, take-length, take_all, take-suc}
+use lib.Seq.{length-take-le, take_all, take-suc}
 use lib.Dec.{ltb, lit<}
 use borrow.Author.Tests.{lt-ltb, ltb-true, ltb-false}
 use Rattle.io.specs.Counts.{IsPrefixLen}
@@ -15,22 +15,6 @@ use Rattle.io.specs.Digits.{hex_digit_ascii, last_digits, IsDigitCount}
 use Rattle.rules.proofs.Choice.{if-elim}
 use Rattle.rules.specs.Program.{digit, decimal_in, decimal, shown, line, lines, ending}
 use Rattle.text.specs.Put.{Put}
-
--- A text that was copied into the part from a place on was put there.
-pub copied : {text out part : List ℕ} {at r : ℕ} (post rest : List ℕ) → at + length text ≤ length out → part ≡ take (length text) text ++ rest → r ≡ length text
-    → length (take at out ++ (part ++ post)) ≡ length out → Put out at text (take at out ++ (part ++ post)) (at + r)
-copied {text} {out} {part} {at} {r} post rest fits ep er el =
-    let front : length (take at out) ≡ at = length-take-le at out (omega arith) in
-    let whole : part ≡ text ++ rest = ep ∙ ap (λ (l : List ℕ). l ++ rest) (take-length text) in
-    record {
-      place = rw er;
-      long = el;
-      stands =
-          subst (λ (m : ℕ). take (m + r) (take at out ++ (part ++ post)) ≡ take at out ++ text) front
-          (take-append-add (take at out) (part ++ post) r
-          ∙ ap (λ (l : List ℕ). take at out ++ l)
-          (rw (whole, er, append_assoc text rest post, take-append-le (length text) text (rest ++ post) (omega arith), take-length text)));
-    }
 
 -- A text that is equal to another.
 pub same_text : {a b t u : List ℕ} {i j : ℕ} → t ≡ u → Put a i t b j → Put a i u b j

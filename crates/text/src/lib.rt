@@ -11,7 +11,9 @@ pub fn put(text: &[u8], out: &mut [u8], at: usize) -> usize
     requires { at + length text.now ≤ length out.old }
     ensures { Put out.old at text.now out.new result }
 {
-    at + bytes::copy(text, &mut out[at..])
+    let after = at + text.len();
+    out[at..after].copy_from_slice(text);
+    after
 }
 
 // A number in decimal.
