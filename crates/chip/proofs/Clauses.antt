@@ -1,4 +1,5 @@
 -- The soundness test as flags joined by "and", and as the rules' list of clauses.
+use Rattle.std.specs.Prelude.{if◌then◌else◌}
 use Prim.Native.Nat.{ℕ, ◌*◌, ◌%◌, ◌^◌, ◌≤◌, ◌<◌}
 use mathlib.Core.Path.{◌≡◌, refl, sym, ap, ◌∙◌}
 use mathlib.Core.Bool.{Bool, true, false, not, ◌&&◌, ◌||◌, and-true, and_assoc, beq}
@@ -13,7 +14,6 @@ use Rattle.rules.specs.declared.Row.{Row}
 use Rattle.rules.specs.declared.Change.{Change}
 use Rattle.rules.specs.declared.Facts.{Facts}
 use Rattle.rules.specs.declared.State.{State}
-use Rattle.rules.specs.World.{if◌then◌else◌}
 use Rattle.rules.specs.Device.{has_identification}
 use Rattle.rules.specs.Instruction.{facts, changes, busy}
 use Rattle.rules.specs.Judge.{storable}

@@ -1,9 +1,8 @@
 // The test for soundness, clause by clause. It is made once a call; within a run every event keeps a sound device sound.
 
-ghost use Rattle.std.specs.Prelude.{◌≡◌, ◌&&◌, ◌+◌, length, eqb, leb};
+ghost use Rattle.std.specs.Prelude.{◌≡◌, ◌&&◌, ◌+◌, length, eqb, leb, if◌then◌else◌};
 ghost use Rattle.rules.specs.Device.{Widths};
 ghost use Rattle.rules.specs.Sound.{◌implies◌, all, is_z, received_clauses, cycle_clauses, resting_clauses, selected_clauses, page_clauses, is_sound};
-ghost use Rattle.rules.specs.World.{if◌then◌else◌};
 ghost use Rattle.rules.specs.Instruction.{busy};
 
 use rules::{Level, Row, State};

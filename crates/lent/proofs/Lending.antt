@@ -1,5 +1,6 @@
 -- What the lent buffers are refused with, and the outcome of preparing, of counting, of the search for a blank page and of loading: one law for
 -- each way through the rules.
+use Rattle.std.specs.Prelude.{if◌then◌else◌}
 use Prim.Native.Nat.{ℕ, ◌+◌, ◌-◌, ◌*◌, ◌≤◌, ◌<◌}
 use mathlib.Core.Path.{◌≡◌, sym, ap, ◌∙◌, subst}
 use mathlib.Core.Bool.{Bool, true, false, not}
@@ -12,7 +13,7 @@ use Rattle.rules.specs.declared.Blank.{Blank}
 use Rattle.rules.specs.declared.Row.{Row}
 use Rattle.rules.specs.declared.State.{State}
 use Rattle.rules.specs.declared.Stored.{Stored}
-use Rattle.rules.specs.World.{if◌then◌else◌, number, world_of, with_stored}
+use Rattle.rules.specs.World.{number, world_of, with_stored}
 use Rattle.rules.specs.Device.{table, is_device, row_of, has_identification, page_count, code, prepared_state, prepared}
 use Rattle.rules.specs.Judge.{storable}
 use Rattle.rules.specs.Sound.{Lent}

@@ -1,7 +1,6 @@
 // What is lent, judged by its lengths: a number of document 01, or 0.
 
-ghost use Rattle.std.specs.Prelude.{◌≡◌};
-ghost use Rattle.rules.specs.World.{if◌then◌else◌};
+ghost use Rattle.std.specs.Prelude.{◌≡◌, if◌then◌else◌};
 ghost use Rattle.rules.specs.Call.{memory_refusal, lent_refusal};
 
 // The number of what is wrong first, in document 01's order, or 0. No number hangs on what else is wrong besides.

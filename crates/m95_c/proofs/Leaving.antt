@@ -1,4 +1,5 @@
 -- What each call for C leaves, one law for each way through the rules.
+use Rattle.std.specs.Prelude.{if◌then◌else◌}
 use Prim.Native.Nat.{ℕ, ◌≤◌, ◌<◌, min}
 use mathlib.Core.Path.{◌≡◌, sym, ap, ◌∙◌, subst}
 use mathlib.Core.Bool.{Bool, true, false, not, ◌&&◌}
@@ -13,7 +14,7 @@ use Rattle.rules.specs.declared.Region.{Region}
 use Rattle.rules.specs.declared.Row.{Row}
 use Rattle.rules.specs.declared.State.{State}
 use Rattle.rules.specs.declared.Stored.{Stored}
-use Rattle.rules.specs.World.{if◌then◌else◌, World, world_of}
+use Rattle.rules.specs.World.{World, world_of}
 use Rattle.rules.specs.Device.{is_device, row_of, page_count}
 use Rattle.rules.specs.Send.{status_byte}
 use Rattle.rules.specs.Trace.{length_of, pin_event, progress_of}

@@ -1,5 +1,6 @@
 -- What the bytes of a state and the places of a page are worth: a state that was put is read back (`read_back`), bytes that are no state get 5
 -- (`no-state-refused`), the place of a page is the page that the library shows (`page-shown`).
+use Rattle.std.specs.Prelude.{if◌then◌else◌}
 use Prim.Native.Nat.{ℕ, zero, suc, ◌-◌, ◌%◌, ◌^◌, ◌<◌}
 use mathlib.Core.Path.{◌≡◌, refl, sym, ap}
 use mathlib.Core.Bool.{Bool, true, false, not}
@@ -11,7 +12,7 @@ use lib.Seq.{take-length}
 use borrow.Author.Tests.{ne_eqb}
 use Rattle.rules.specs.declared.Region.{Region}
 use Rattle.rules.specs.declared.Row.{Row}
-use Rattle.rules.specs.World.{if◌then◌else◌, World}
+use Rattle.rules.specs.World.{World}
 use Rattle.rules.specs.Device.{row_of}
 use Rattle.rules.specs.Sound.{is_sound, clauses}
 use Rattle.rules.specs.Instruction.{changes}

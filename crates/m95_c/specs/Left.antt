@@ -1,5 +1,6 @@
 -- What each call for C leaves: its number and everything lent to it, as one function of what it was given.
-use Rattle.rules.specs.World.{ℕ, ◌-◌, ◌%◌, Bool, not, ◌&&◌, List, length, eqb, leb, ltb, min, if◌then◌else◌, World, world_of}
+use Rattle.std.specs.Prelude.{◌-◌, ◌%◌, ◌&&◌, if◌then◌else◌}
+use Rattle.rules.specs.World.{ℕ, Bool, not, List, length, eqb, leb, ltb, min, World, world_of}
 use Rattle.rules.specs.declared.Event.{Event}
 use Rattle.rules.specs.declared.Region.{Region}
 use Rattle.rules.specs.declared.Row.{Row}

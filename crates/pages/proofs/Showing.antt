@@ -1,4 +1,5 @@
 -- The outcome of a view, one law for each way through the rules.
+use Rattle.std.specs.Prelude.{if◌then◌else◌}
 use Prim.Native.Nat.{ℕ, ◌+◌, ◌-◌, ◌%◌, ◌≤◌, ◌<◌}
 use mathlib.Core.Path.{◌≡◌, sym, ap, ◌∙◌}
 use mathlib.Core.Bool.{Bool, true, false, not}
@@ -10,7 +11,6 @@ use lib.ListN.{length, take, drop}
 use borrow.Author.Tests.{eqb-true, leb-false, eq-eqb, ne_eqb, not-false}
 use Rattle.rules.specs.declared.Region.{Region}
 use Rattle.rules.specs.declared.Row.{Row}
-use Rattle.rules.specs.World.{if◌then◌else◌}
 use Rattle.rules.specs.Device.{Widths, row_of}
 use Rattle.rules.specs.Call.{memory_refusal, part_of, is_past, shown_as, view_outcome}
 use Rattle.rules.proofs.Choice.{if-elim, clash}

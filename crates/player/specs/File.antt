@@ -1,9 +1,8 @@
 -- What a chip's file says beside its cells and its identification page. A file as long as the cells says nothing: all is as prepared.
 -- Whether the device can have it stored, loading judges.
-use Rattle.std.specs.Prelude.{ℕ, ◌+◌, not, ◌==◌}
+use Rattle.std.specs.Prelude.{ℕ, ◌+◌, not, ◌==◌, if◌then◌else◌}
 use Rattle.rules.specs.declared.Row.{Row}
 use Rattle.rules.specs.declared.Stored.{Stored}
-use Rattle.rules.specs.World.{if◌then◌else◌}
 use Rattle.rules.specs.Call.{stored_as}
 use Rattle.player.specs.declared.contents.Fault.{Fault}
 use Rattle.player.specs.declared.contents.Said.{Said}

@@ -1,5 +1,6 @@
 -- Laws on choices by a test, on tests joined by "and", "or" and "not", on lists of tests and tests of all small numbers, and on a bit
 -- as a number.
+use Rattle.std.specs.Prelude.{if◌then◌else◌}
 use Prim.Native.Nat.{ℕ, zero, suc, ◌≤◌, ◌<◌}
 use mathlib.Core.Path.{◌≡◌, refl, sym, ap, ◌∙◌}
 use mathlib.Core.Bool.{Bool, true, false, ◌&&◌, ◌||◌, true≢false}
@@ -8,31 +9,31 @@ use mathlib.Core.Logic.{⊎_elim}
 use native.Mathlib.Nat.{eq-or-lt_of_le, le_of_suc-le-suc, not-suc-le-zero}
 use native.Mathlib.Omega.{arith}
 use lib.Dec.{eqb}
-use Rattle.rules.specs.World.{if◌then◌else◌, number}
+use Rattle.rules.specs.World.{number}
 use Rattle.rules.specs.Sound.{◌implies◌, all}
 
 -- A choice has a property if each side has it under its test.
-pub if-elim {ℓ κ} : {A : Type ℓ} (P : A → Type κ) (b : Bool) {x y : A} → (b ≡ true → P x) → (b ≡ false → P y) → P (if b then x else y)
+pub if-elim {κ} : {A : Type 0} (P : A → Type κ) (b : Bool) {x y : A} → (b ≡ true → P x) → (b ≡ false → P y) → P (if b then x else y)
 if-elim P true f g = f refl
 if-elim P false f g = g refl
 
 -- Two choices by one test are related if their sides are.
-pub if-both {ℓ κ} : {A B : Type ℓ} (R : A → B → Type κ) (b : Bool) {x y : A} {x' y' : B} → (b ≡ true → R x x') → (b ≡ false → R y y') → R (if b then x else y) (if b then x' else y')
+pub if-both {κ} : {A B : Type 0} (R : A → B → Type κ) (b : Bool) {x y : A} {x' y' : B} → (b ≡ true → R x x') → (b ≡ false → R y y') → R (if b then x else y) (if b then x' else y')
 if-both R true f g = f refl
 if-both R false f g = g refl
 
 -- A choice by d and, within it, by t; and one by both.
-pub if-within {ℓ κ μ} : {A : Type ℓ} {B : Type κ} (P : A → B → Type μ) (d t : Bool) {x y z : A} {b b' : B}
+pub if-within {μ} : {A B : Type 0} (P : A → B → Type μ) (d t : Bool) {x y z : A} {b b' : B}
     → (t ≡ true → P x b') → (t ≡ false → P y b) → P z b → P (if d then (if t then x else y) else z) (if d && t then b' else b)
 if-within P true true f g h = f refl
 if-within P true false f g h = g refl
 if-within P false t f g h = h
 
-pub if_yes {ℓ} : {A : Type ℓ} (b : Bool) (x y : A) → b ≡ true → (if b then x else y) ≡ x
+pub if_yes : {A : Type 0} (b : Bool) (x y : A) → b ≡ true → (if b then x else y) ≡ x
 if_yes true x y e = refl
 if_yes false x y e = absurd (true≢false (sym e))
 
-pub if_no {ℓ} : {A : Type ℓ} (b : Bool) (x y : A) → b ≡ false → (if b then x else y) ≡ y
+pub if_no : {A : Type 0} (b : Bool) (x y : A) → b ≡ false → (if b then x else y) ≡ y
 if_no true x y e = absurd (true≢false e)
 if_no false x y e = refl
 

@@ -1,4 +1,5 @@
 -- W-204's theorems but for `filled-says`: `counts-kept`, `counts-never-refuse`, both for the public calls, and how counts come to agree.
+use Rattle.std.specs.Prelude.{if◌then◌else◌}
 use Prim.Native.Nat.{ℕ, zero, suc, ◌+◌, ◌*◌, ◌/◌, ◌≤◌, ◌<◌}
 use mathlib.Core.Path.{◌≡◌, refl, sym, ap, ◌∙◌, subst}
 use mathlib.Core.Bool.{Bool, true, false, not, ◌&&◌}
@@ -9,7 +10,7 @@ use lib.ListN.{length, get_or, set, replicate, length-set, get_or-replicate}
 use lib.Seq.{get_or-set_same, get_or-set_other}
 use lib.Dec.{eqb}
 use borrow.Author.Tests.{eqb-true, eqb-false, eq-eqb, not-false}
-use Rattle.rules.specs.World.{Row, Event, World, if◌then◌else◌}
+use Rattle.rules.specs.World.{Row, Event, World}
 use Rattle.rules.specs.Device.{Widths, is_device, row_of, page_count, prepared}
 use Rattle.rules.specs.Instruction.{changes, busy}
 use Rattle.rules.specs.Cycle.{written, filled, is_miscounted, recounted, ends, waited}

@@ -1,4 +1,5 @@
 -- Inside a selection, beside the twin that has none: what a broken selection changes that its twin has not.
+use Rattle.std.specs.Prelude.{if◌then◌else◌}
 use Prim.Native.Nat.{ℕ, suc, ◌+◌, ◌*◌, ◌%◌}
 use mathlib.Core.Path.{◌≡◌, refl, sym, ap, ◌∙◌, subst}
 use mathlib.Core.Bool.{Bool, true, false, not, ◌&&◌, and-false}
@@ -7,7 +8,7 @@ use native.Mathlib.Omega.{arith}
 use lib.ListN.{length}
 use lib.Dec.{eqb, ltb}
 use borrow.Author.Tests.{eqb-true, eqb-false}
-use Rattle.rules.specs.World.{Row, Instruction, Kind, Event, Input, World, if◌then◌else◌, number, with_pins, with_state, with_latch}
+use Rattle.rules.specs.World.{Row, Instruction, Kind, Event, Input, World, number, with_pins, with_state, with_latch}
 use Rattle.rules.specs.Device.{Widths}
 use Rattle.rules.specs.Instruction.{facts, changes, busy, holds_latch, latches, decode, turned_away}
 use Rattle.rules.specs.Receive.{is_code, is_latched, latch_after, input_after, risen, risen_latch}

@@ -1,4 +1,5 @@
 -- Two latches that will write the same: equal marks, and equal data where marked.
+use Rattle.std.specs.Prelude.{if◌then◌else◌}
 use Prim.Native.Nat.{ℕ, zero, suc, ◌+◌, ◌%◌, ◌≤◌, ◌<◌}
 use mathlib.Core.Path.{◌≡◌, refl, sym, ◌∙◌, subst}
 use mathlib.Core.Bool.{Bool, true, false}
@@ -8,7 +9,7 @@ use lib.ListN.{length, get_or, set, take, replicate, get_or-replicate, length-se
 use lib.Seq.{get_or-append-add, get_or-set_same, get_or-set_other, length-take-le}
 use lib.Dec.{eqb, ltb}
 use borrow.Author.Tests.{eqb-true, eqb-false, ltb-true, ltb-false}
-use Rattle.rules.specs.World.{Row, if◌then◌else◌}
+use Rattle.rules.specs.World.{Row}
 use Rattle.rules.specs.Receive.{cleared, marked}
 use Rattle.rules.specs.Cycle.{written}
 use Rattle.rules.proofs.Choice.{if-both}

@@ -1,4 +1,5 @@
 -- The theorems `given_back` and `as-after-power`: what is stored, out and in again.
+use Rattle.std.specs.Prelude.{if◌then◌else◌}
 use Prim.Native.Nat.{ℕ, zero, suc, ◌+◌, ◌≤◌}
 use mathlib.Core.Path.{◌≡◌, refl, sym, ap, ◌∙◌, subst}
 use mathlib.Core.Bool.{Bool, true, false, not}
@@ -7,7 +8,7 @@ use native.Mathlib.Omega.{arith}
 use lib.ListN.{get_or}
 use lib.Dec.{eqb, ltb}
 use borrow.Author.Tests.{eq-eqb, ltb-false, eqb-true, not-false}
-use Rattle.rules.specs.World.{Row, Kind, Level, Pins, Stored, World, Event, if◌then◌else◌, number, world_of, with_state}
+use Rattle.rules.specs.World.{Row, Kind, Level, Pins, Stored, World, Event, number, world_of, with_state}
 use Rattle.rules.specs.Device.{Widths, is_device, row_of, has_identification, prepared_state, prepared}
 use Rattle.rules.specs.Instruction.{changes, busy}
 use Rattle.rules.specs.Judge.{storable}

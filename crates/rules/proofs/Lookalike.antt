@@ -1,4 +1,5 @@
 -- Worlds that no events tell apart: no run that goes on from them does either.
+use Rattle.std.specs.Prelude.{if◌then◌else◌}
 use Prim.Native.Nat.{ℕ, zero, suc, ◌+◌}
 use mathlib.Core.Path.{◌≡◌, refl, sym, ap, ◌∙◌, subst₂}
 use mathlib.Core.Bool.{Bool, true, false, not, ◌&&◌, ◌||◌}
@@ -6,7 +7,7 @@ use mathlib.Core.List.{List, [], ◌∷◌}
 use lib.ListN.{set, length}
 use lib.Dec.{eqb, leb}
 use borrow.Author.Tests.{eqb-true}
-use Rattle.rules.specs.World.{Row, Event, World, if◌then◌else◌}
+use Rattle.rules.specs.World.{Row, Event, World}
 use Rattle.rules.specs.Event.{answer, refusal, step, next}
 use Rattle.rules.specs.Trace.{two, event_at, record_refusal, answer_byte, Progress, progress_of, turn, run}
 use Rattle.rules.specs.Selections.{Contents, Visible, contents, visible, sights}

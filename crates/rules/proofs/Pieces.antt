@@ -1,4 +1,5 @@
 -- The theorem `pieces`: a trace may be run in pieces.
+use Rattle.std.specs.Prelude.{if◌then◌else◌}
 use Prim.Native.Nat.{ℕ, zero, suc, ◌+◌, ◌-◌, ◌≤◌, ◌<◌}
 use mathlib.Core.Path.{◌≡◌, refl, sym, ap, ◌∙◌, subst}
 use mathlib.Core.Bool.{Bool, true, false, not, ◌&&◌, ◌||◌}
@@ -8,7 +9,7 @@ use lib.ListN.{get_or, set, take, drop, length, get_or-append, length-append, le
 use lib.Seq.{get_or-drop, length-take-le}
 use lib.Dec.{eqb, leb}
 use borrow.Author.Tests.{eq-eqb, ne_eqb, le-leb, lt-leb, le-ltb, eqb-true, leb-true, leb-false}
-use Rattle.rules.specs.World.{if◌then◌else◌, Row, Event, World}
+use Rattle.rules.specs.World.{Row, Event, World}
 use Rattle.rules.specs.Event.{step, answer}
 use Rattle.rules.specs.Trace.{two, length_of, pin_event, event_at, bad_pin, record_refusal, answer_byte, Progress, progress_of, turn, run, Pieces}
 use Rattle.rules.proofs.Choice.{if-elim, if-both}

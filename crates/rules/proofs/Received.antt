@@ -1,4 +1,5 @@
 -- What a decoded edge of C keeps sound: the byte being received, the address, the command and the latch.
+use Rattle.std.specs.Prelude.{if◌then◌else◌}
 use Prim.Native.Nat.{ℕ, ◌+◌, ◌*◌, ◌%◌, ◌≤◌, ◌<◌, min}
 use mathlib.Core.Path.{◌≡◌, refl, sym, ap, ◌∙◌}
 use mathlib.Core.Bool.{Bool, true, false, not, ◌&&◌}
@@ -9,7 +10,7 @@ use native.Mathlib.Omega.{arith}
 use lib.ListN.{length, get_or, length-append, length-take, length-replicate, length-set}
 use lib.Dec.{eqb, lit<}
 use borrow.Author.Tests.{eqb-false, not-false}
-use Rattle.rules.specs.World.{Source, Row, Instruction, Input, State, World, if◌then◌else◌, bit, number}
+use Rattle.rules.specs.World.{Source, Row, Instruction, Input, State, World, bit, number}
 use Rattle.rules.specs.declared.Instruction.TheVariants.{Wren, Wrdi, Rdsr, Wrsr, Read, Write, Rdid, Rdls, Wrid, Lid, Unknown}
 use Rattle.rules.specs.Device.{Widths, has_identification, has_a8}
 use Rattle.rules.specs.Instruction.{facts, named, decode, busy, latches, turned_away, command_bytes, longer, lock_bit}

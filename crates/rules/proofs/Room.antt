@@ -1,4 +1,5 @@
 -- W-205's theorems: `first-blank-says`, `blank-numbers`, `blank-stops`, `blank-as-read`, `counted-as-read`.
+use Rattle.std.specs.Prelude.{if◌then◌else◌}
 use Prim.Native.Nat.{ℕ, zero, suc, ◌+◌, ◌*◌, ◌≤◌, ◌<◌}
 use mathlib.Core.Path.{◌≡◌, refl, sym, ap, ◌∙◌, subst}
 use mathlib.Core.Bool.{Bool, true, false, not}
@@ -9,7 +10,7 @@ use native.Mathlib.Omega.{arith}
 use lib.ListN.{length, get_or}
 use lib.Dec.{eqb}
 use borrow.Author.Tests.{eqb-true, eqb-false, not-false}
-use Rattle.rules.specs.World.{Blank, if◌then◌else◌}
+use Rattle.rules.specs.World.{Blank}
 use Rattle.rules.specs.Device.{is_device, row_of, page_count}
 use Rattle.rules.specs.Call.{recounted_to, count_outcome, lowest, first_blank, found_as, blank_outcome}
 use Rattle.rules.specs.Room.{Lowest, Answers, FirstBlankSays, BlankNumbers, BlankStops, IsBlank, BlankAsRead, CountedAsRead}

@@ -1,4 +1,5 @@
 -- Two worlds that no one can tell apart: equal but for the latch where nothing will use it and, while deselected, what the last selection left.
+use Rattle.std.specs.Prelude.{if◌then◌else◌}
 use Prim.Native.Nat.{ℕ, ◌+◌, ◌*◌}
 use mathlib.Core.Path.{◌≡◌, refl, sym, ap, ◌∙◌, subst}
 use mathlib.Core.Bool.{Bool, true, false, not, ◌&&◌, ◌||◌}
@@ -8,7 +9,7 @@ use native.Mathlib.Omega.{arith}
 use lib.ListN.{length}
 use lib.Dec.{eqb, leb}
 use borrow.Author.Tests.{not-true}
-use Rattle.rules.specs.World.{Row, Instruction, Kind, Level, Event, Command, State, World, if◌then◌else◌, number, with_pins, with_selection, with_state, with_latch}
+use Rattle.rules.specs.World.{Row, Instruction, Kind, Level, Event, Command, State, World, number, with_pins, with_selection, with_state, with_latch}
 use Rattle.rules.specs.Device.{Widths}
 use Rattle.rules.specs.Instruction.{facts, changes, busy, holds_latch, latches, decode, turned_away, longer, lock_bit}
 use Rattle.rules.specs.Receive.{is_code, is_last, is_latched, command_after, latch_after, risen, risen_latch}

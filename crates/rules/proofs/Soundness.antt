@@ -1,4 +1,5 @@
 -- The theorem `reads`: the test for soundness and the record of facts say the same.
+use Rattle.std.specs.Prelude.{if◌then◌else◌}
 use Prim.Native.Nat.{ℕ, zero, suc, ◌%◌, ◌^◌, ◌≤◌}
 use mathlib.Core.Path.{◌≡◌, refl, sym, ap}
 use mathlib.Core.Bool.{Bool, true, false, not, ◌&&◌, ◌||◌, beq}
@@ -8,7 +9,7 @@ use lib.ListN.{get_or, drop}
 use lib.Seq.{get_or-drop}
 use lib.Dec.{eqb, leb}
 use borrow.Author.Tests.{eqb-true, eqb-false, leb-true, ltb-true, eq-eqb, ne_eqb, le-leb, lt-ltb, not-true}
-use Rattle.rules.specs.World.{Row, Level, World, if◌then◌else◌}
+use Rattle.rules.specs.World.{Row, Level, World}
 use Rattle.rules.specs.Device.{has_identification}
 use Rattle.rules.specs.Instruction.{facts, changes, busy}
 use Rattle.rules.specs.Judge.{storable}

@@ -1,11 +1,12 @@
 -- What a cycle that is over leaves behind: its page start and its new status bits. No rule reads them before the next cycle makes them anew.
+use Rattle.std.specs.Prelude.{if◌then◌else◌}
 use Prim.Native.Nat.{ℕ}
 use mathlib.Core.Path.{◌≡◌, refl, sym, ap, ap₂, ◌∙◌}
 use mathlib.Core.Bool.{Bool, true, false, not, ◌&&◌}
 use mathlib.Core.List.{List, [], ◌∷◌}
 use lib.Dec.{eqb}
 use Rattle.rules.specs.declared.Filler.{Filler}
-use Rattle.rules.specs.World.{Row, Kind, Source, Event, State, World, if◌then◌else◌, with_pins, with_state}
+use Rattle.rules.specs.World.{Row, Kind, Source, Event, State, World, with_pins, with_state}
 use Rattle.rules.specs.Instruction.{facts, changes}
 use Rattle.rules.specs.Send.{byte_of, shown_address, output_after, fallen}
 use Rattle.rules.specs.Judge.{storable, is_whole, is_dropped, is_done, start_of, judged}

@@ -1,4 +1,5 @@
 -- What is stored, and a cycle, stay sound: at S's rise, which can start one, and as time passes.
+use Rattle.std.specs.Prelude.{if◌then◌else◌}
 use Prim.Native.Nat.{ℕ, zero, suc, ◌+◌, ◌-◌, ◌*◌, ◌/◌, ◌%◌, ◌<◌}
 use mathlib.Core.Path.{◌≡◌, refl, sym, ap, ◌∙◌}
 use mathlib.Core.Bool.{Bool, true, false, ◌&&◌}
@@ -8,7 +9,7 @@ use native.Mathlib.Omega.{arith}
 use lib.ListN.{length, get_or, length-set}
 use lib.Dec.{eqb, leb, lit<}
 use borrow.Author.Tests.{leb-true, leb-false}
-use Rattle.rules.specs.World.{Row, Kind, World, if◌then◌else◌, bit, number}
+use Rattle.rules.specs.World.{Row, Kind, World, bit, number}
 use Rattle.rules.specs.Device.{Widths}
 use Rattle.rules.specs.Instruction.{facts, changes}
 use Rattle.rules.specs.Judge.{storable, start_of}

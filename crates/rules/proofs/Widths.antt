@@ -1,4 +1,5 @@
 -- Facts on address width and page size, over the width; and that every row of the device table has the widths that they ask for.
+use Rattle.std.specs.Prelude.{if◌then◌else◌}
 use Prim.Native.Nat.{ℕ, zero, suc, ◌+◌, ◌-◌, ◌*◌, ◌/◌, ◌%◌, ◌^◌, ◌≤◌, ◌<◌}
 use mathlib.Core.Path.{◌≡◌, refl, sym, ap, ◌∙◌, subst}
 use mathlib.Core.Bool.{Bool, true, false, not, ◌&&◌}
@@ -9,7 +10,7 @@ use lib.Pow.{pow-lt, pow-add}
 use lib.Dec.{eqb, leb, ltb}
 use lib.ListN.{length, get_or}
 use borrow.Author.Tests.{eqb-true, leb-true, ltb-true}
-use Rattle.rules.specs.World.{if◌then◌else◌, Row}
+use Rattle.rules.specs.World.{Row}
 use Rattle.rules.specs.Device.{Widths, has_identification, has_a8, page_count, entries, first_protected, code, table, m95040, row_of}
 use Rattle.rules.specs.Instruction.{longer}
 use Rattle.rules.specs.Receive.{rolled}

@@ -1,5 +1,6 @@
 -- Where there is room, by example: each answer and each number that the question can get.
-use Rattle.rules.specs.World.{List, [], ◌∷◌, ◌++◌, replicate, Blank}
+use Rattle.std.specs.Prelude.{◌∷◌, ◌++◌}
+use Rattle.rules.specs.World.{List, [], replicate, Blank}
 use Rattle.rules.specs.Call.{found_as}
 use Rattle.rules.specs.Lines.{Line, blank}
 

@@ -1,5 +1,6 @@
 -- 01, "Numbers given back": the whole outcome of each public call, for every input. Refusals are read from top to bottom.
-use Rattle.rules.specs.World.{ℕ, zero, suc, ◌+◌, ◌*◌, Bool, false, ◌&&◌, ltb, get_or, ◌-◌, ◌%◌, not, List, [], take, drop, length, eqb, leb, if◌then◌else◌, number}
+use Rattle.std.specs.Prelude.{◌+◌, ◌*◌, ◌&&◌, ◌-◌, ◌%◌, if◌then◌else◌}
+use Rattle.rules.specs.World.{ℕ, zero, suc, Bool, false, ltb, get_or, not, List, [], take, drop, length, eqb, leb, number}
 use Rattle.rules.specs.World.{Row, Region, Blank, Event, Stored, State, World, world_of, with_stored}
 use Rattle.rules.specs.Device.{is_device, row_of, has_identification, page_count, prepared_state, prepared}
 use Rattle.rules.specs.Judge.{storable}

@@ -1,5 +1,6 @@
 -- W-204 as statements: what a count says, that the counts stay right whatever happens, and that right counts are never refused.
-use Rattle.rules.specs.World.{ℕ, ◌+◌, ◌*◌, ◌<◌, ◌≡◌, List, get_or, Row, Event, World}
+use Rattle.std.specs.Prelude.{◌+◌, ◌*◌, ◌<◌, ◌≡◌}
+use Rattle.rules.specs.World.{ℕ, List, get_or, Row, Event, World}
 use Rattle.rules.specs.Device.{Widths, row_of, page_count}
 use Rattle.rules.specs.Cycle.{filled}
 use Rattle.rules.specs.Event.{refusal, next}

@@ -1,5 +1,6 @@
 -- 01, "Events", wait: time passes, and what the end of a cycle changes; with W-204 the count of its page too.
-use Rattle.rules.specs.World.{Bool, State, ℕ, zero, suc, ◌+◌, ◌-◌, ◌/◌, not, ◌&&◌, ◌||◌, List, get_or, set, eqb, leb, if◌then◌else◌, number, Row, Kind, World, with_stored}
+use Rattle.std.specs.Prelude.{◌+◌, ◌-◌, ◌/◌, ◌&&◌, ◌||◌, if◌then◌else◌}
+use Rattle.rules.specs.World.{Bool, State, ℕ, zero, suc, not, List, get_or, set, eqb, leb, number, Row, Kind, World, with_stored}
 use Rattle.rules.specs.Instruction.{changes, busy}
 
 -- The first n latch bytes of a page go to their places from a on, where they are marked. This is the one rule by which stored bytes change.

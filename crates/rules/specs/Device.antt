@@ -1,6 +1,7 @@
 -- The device table, and preparing a device.
-use Rattle.rules.specs.World.{ℕ, ◌-◌, ◌*◌, ◌/◌, ◌%◌, ◌^◌, ◌≤◌, ◌<◌, ◌≡◌, Bool, true, false, not, ◌&&◌}
-use Rattle.rules.specs.World.{List, [], ◌∷◌, ◌++◌, get_or, length, replicate, eqb, leb, ltb, if◌then◌else◌, Sheet, Row, Instruction, Kind, Level, State, World}
+use Rattle.std.specs.Prelude.{◌-◌, ◌*◌, ◌/◌, ◌%◌, ◌^◌, ◌≤◌, ◌<◌, ◌≡◌, ◌&&◌, ◌∷◌, ◌++◌, if◌then◌else◌}
+use Rattle.rules.specs.World.{ℕ, Bool, true, false, not}
+use Rattle.rules.specs.World.{List, [], get_or, length, replicate, eqb, leb, ltb, Sheet, Row, Instruction, Kind, Level, State, World}
 
 -- W-203, a line of the service sheet: the first protected address under BP 00, 01, 10 and 11. Under 00, which protects nothing, it is the
 -- cell count.

@@ -1,6 +1,7 @@
 -- 01, "Events": each event, the hold rule after it, and what Q answers.
-use Rattle.rules.specs.World.{ℕ, Bool, true, false, not, ◌&&◌, ◌||◌}
-use Rattle.rules.specs.World.{List, [], ◌∷◌, eqb, if◌then◌else◌, Row, Instruction, Level, Event, Pins, State, World, with_pins, with_selection, with_stored, with_state, with_latch}
+use Rattle.std.specs.Prelude.{◌&&◌, ◌||◌, ◌∷◌, if◌then◌else◌}
+use Rattle.rules.specs.World.{ℕ, Bool, true, false, not}
+use Rattle.rules.specs.World.{List, [], eqb, Row, Instruction, Level, Event, Pins, State, World, with_pins, with_selection, with_stored, with_state, with_latch}
 use Rattle.rules.specs.Instruction.{changes, busy}
 use Rattle.rules.specs.Receive.{risen, risen_latch}
 use Rattle.rules.specs.Send.{fallen}

@@ -1,5 +1,6 @@
 -- A single event by example: each number that it can give, with all that it leaves. `Unsound` has what gives 5.
-use Rattle.rules.specs.World.{ℕ, Bool, true, false, List, [], ◌∷◌, ◌++◌, replicate, Instruction, Kind, Event, Selection, Cycle, State, world_of, with_pins, with_selection, with_stored, with_state}
+use Rattle.std.specs.Prelude.{◌∷◌, ◌++◌}
+use Rattle.rules.specs.World.{ℕ, Bool, true, false, List, [], replicate, Instruction, Kind, Event, Selection, Cycle, State, world_of, with_pins, with_selection, with_stored, with_state}
 use Rattle.rules.specs.Device.{prepared_state}
 use Rattle.rules.specs.Call.{replied_as}
 use Rattle.rules.specs.Lines.{Line, event, good, no_cells, no_identification, no_latch, no_counts, bad_mark, busy, in_cycle, blanking, counting, miscounted, chosen, small, page_of_none}

@@ -1,5 +1,6 @@
 -- 01, "Proved examples": what a person does at the bench and sees there, and all twelve in one table. `Readings` has more of such lines.
-use Rattle.rules.specs.World.{ℕ, zero, suc, ◌+◌, ◌*◌, ◌≡◌, true, false, List, [], ◌∷◌, ◌++◌, get_or, bit, Row, Level, Event, World, Each}
+use Rattle.std.specs.Prelude.{◌+◌, ◌*◌, ◌≡◌, ◌∷◌, ◌++◌}
+use Rattle.rules.specs.World.{ℕ, zero, suc, true, false, List, [], get_or, bit, Row, Level, Event, World, Each}
 use Rattle.rules.specs.Device.{row_of, prepared}
 use Rattle.rules.specs.Event.{answer, after}
 

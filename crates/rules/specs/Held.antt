@@ -1,5 +1,6 @@
 -- W-206 as statements: what S's rise does with a command that it finds held, for any row, by what its column says. `HeldLines` has examples.
-use Rattle.rules.specs.World.{◌≡◌, Bool, true, false, Row, Instruction, Event, World, with_pins, with_selection, with_state}
+use Rattle.std.specs.Prelude.{◌≡◌}
+use Rattle.rules.specs.World.{Bool, true, false, Row, Instruction, Event, World, with_pins, with_selection, with_state}
 use Rattle.rules.specs.Instruction.{facts}
 use Rattle.rules.specs.Judge.{is_complete}
 use Rattle.rules.specs.Event.{pins_after, deselected, next}

@@ -1,5 +1,6 @@
 -- W-206 by example: what is seen at the bench when S rises on a device in hold. The two M95128s then start a write, the others drop it.
-use Rattle.rules.specs.World.{ℕ, true, false, List, [], ◌∷◌, ◌++◌, Event}
+use Rattle.std.specs.Prelude.{◌∷◌, ◌++◌}
+use Rattle.rules.specs.World.{ℕ, true, false, List, [], Event}
 use Rattle.rules.specs.Examples.{bits_in, bytes_in, Act, ask, hears, events, cell, identity, latched, wren, status, pause, full, rolls, Line}
 use Rattle.rules.specs.Readings.{clocks}
 

@@ -1,5 +1,6 @@
 -- 01, "Instructions": the codes, what each instruction is and does, and forming an address.
-use Rattle.rules.specs.World.{Facts, Change, Source, ℕ, ◌+◌, ◌-◌, ◌*◌, ◌%◌, Bool, true, false, not, ◌&&◌, ◌||◌, List, [], ◌∷◌, eqb, if◌then◌else◌, bit, number, Row, Instruction, Kind, State}
+use Rattle.std.specs.Prelude.{◌+◌, ◌-◌, ◌*◌, ◌%◌, ◌&&◌, ◌||◌, ◌∷◌, if◌then◌else◌}
+use Rattle.rules.specs.World.{Facts, Change, Source, ℕ, Bool, true, false, not, List, [], eqb, bit, number, Row, Instruction, Kind, State}
 use Rattle.rules.specs.declared.Instruction.TheVariants.{Wren, Wrdi, Rdsr, Wrsr, Read, Write, Rdid, Rdls, Wrid, Lid, Unknown}
 use Rattle.rules.specs.Device.{single, has_identification, has_a8}
 

@@ -1,5 +1,6 @@
 -- 01, "Instructions", what the rise of S decides: whether a command has all that it asks for, and what then starts.
-use Rattle.rules.specs.World.{ℕ, ◌+◌, ◌-◌, ◌*◌, ◌/◌, ◌%◌, Bool, not, ◌&&◌, ◌||◌, eqb, leb, ltb, if◌then◌else◌, bit, number, Row, Kind, State, with_stored}
+use Rattle.std.specs.Prelude.{◌+◌, ◌-◌, ◌*◌, ◌/◌, ◌%◌, ◌&&◌, ◌||◌, if◌then◌else◌}
+use Rattle.rules.specs.World.{ℕ, Bool, not, eqb, leb, ltb, bit, number, Row, Kind, State, with_stored}
 use Rattle.rules.specs.Device.{single, first_protected}
 use Rattle.rules.specs.Instruction.{facts, changes, is_write}
 

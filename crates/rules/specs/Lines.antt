@@ -1,6 +1,7 @@
 -- 01, "Numbers given back", by example: a line is a call with its whole outcome beside it (the answer, the records done and bytes taken,
 -- the state and every lent buffer), and the worlds that the lines of several calls speak of. Where two faults stand together, the earlier number is given.
-use Rattle.rules.specs.World.{ℕ, ◌≡◌, true, false, List, [], ◌∷◌, ◌++◌, replicate, Kind, Region, Event, Stored, State, World, world_of, Each}
+use Rattle.std.specs.Prelude.{◌≡◌, ◌∷◌, ◌++◌}
+use Rattle.rules.specs.World.{ℕ, true, false, List, [], replicate, Kind, Region, Event, Stored, State, World, world_of, Each}
 use Rattle.rules.specs.World.{with_pins, with_selection, with_stored, with_state, with_latch}
 use Rattle.rules.specs.Device.{prepared_state}
 use Rattle.rules.specs.Trace.{Progress}

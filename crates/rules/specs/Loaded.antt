@@ -1,5 +1,6 @@
 -- What is stored, out and in again: a chip loaded with what another has stored is that other with its power off and on.
-use Rattle.rules.specs.World.{ℕ, ◌≡◌, false, List, Event, Stored, World, with_state}
+use Rattle.std.specs.Prelude.{◌≡◌}
+use Rattle.rules.specs.World.{ℕ, false, List, Event, Stored, World, with_state}
 use Rattle.rules.specs.Device.{row_of, prepared_state}
 use Rattle.rules.specs.Instruction.{busy}
 use Rattle.rules.specs.Event.{next}

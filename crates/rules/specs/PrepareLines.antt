@@ -1,5 +1,6 @@
 -- Preparing, counting, loading and what is stored, by example: each number that these calls can give, with all that they leave.
-use Rattle.rules.specs.World.{ℕ, Bool, true, false, List, [], ◌∷◌, ◌++◌, replicate, Kind, State, with_stored}
+use Rattle.std.specs.Prelude.{◌∷◌, ◌++◌}
+use Rattle.rules.specs.World.{ℕ, Bool, true, false, List, [], replicate, Kind, State, with_stored}
 use Rattle.rules.specs.Device.{prepared_state}
 use Rattle.rules.specs.Call.{prepared_as, counted_as, stored_as, loaded_as}
 use Rattle.rules.specs.Lines.{Line, prepare, count, load, stored, lent}

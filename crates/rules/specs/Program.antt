@@ -1,5 +1,6 @@
 -- 01, "Bench program": what it prints, byte for byte, as one function of its input. Texts are lists of ASCII codes.
-use Rattle.rules.specs.World.{ℕ, zero, suc, ◌+◌, ◌/◌, ◌%◌, ◌≡◌, true, false, List, [], ◌∷◌, ◌++◌, take, drop, replicate, length, eqb, ltb, if◌then◌else◌, with_stored, with_state, Each}
+use Rattle.std.specs.Prelude.{◌+◌, ◌/◌, ◌%◌, ◌≡◌, ◌∷◌, ◌++◌, if◌then◌else◌}
+use Rattle.rules.specs.World.{ℕ, zero, suc, true, false, List, [], take, drop, replicate, length, eqb, ltb, with_stored, with_state, Each}
 use Rattle.rules.specs.Device.{m95128d, row_of, prepared_state, prepared}
 use Rattle.rules.specs.Send.{status_byte}
 use Rattle.rules.specs.Trace.{Progress, progress_of}

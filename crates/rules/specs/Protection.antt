@@ -1,5 +1,6 @@
 -- W-203 as statements: the service sheet answers what the arithmetic on the cell count answered, and what it prints can be read as it stands.
-use Rattle.rules.specs.World.{ℕ, ◌-◌, ◌*◌, ◌/◌, ◌%◌, ◌<◌, ◌≡◌, Bool, false, ◌&&◌, ◌||◌, eqb, leb, Row, World}
+use Rattle.std.specs.Prelude.{◌-◌, ◌*◌, ◌/◌, ◌%◌, ◌<◌, ◌≡◌, ◌&&◌, ◌||◌}
+use Rattle.rules.specs.World.{ℕ, Bool, false, eqb, leb, Row, World}
 use Rattle.rules.specs.Device.{row_of, first_protected, Widths}
 use Rattle.rules.specs.Judge.{blocks, is_protected}
 use Rattle.rules.specs.Sound.{Sound}

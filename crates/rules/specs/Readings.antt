@@ -1,6 +1,7 @@
 -- Rules that are easily misread, a line each, seen at the bench as the examples are: first 01's "Readings that look right and are not"
 -- that no example refutes, then edges, hold, power, cycles, and what each command asks for.
-use Rattle.rules.specs.World.{ℕ, true, false, List, [], ◌∷◌, ◌++◌, Event}
+use Rattle.std.specs.Prelude.{◌∷◌, ◌++◌}
+use Rattle.rules.specs.World.{ℕ, true, false, List, [], Event}
 use Rattle.rules.specs.Examples.{bits_in, bytes_in, Act, send, ask, hears, events, output, cell, identity, latched, say, wren, status, pause, full, rolls, Line}
 
 -- S falls and bytes go in, and the selection goes on; S rises; the clock up and down.

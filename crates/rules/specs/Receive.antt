@@ -1,5 +1,6 @@
 -- 01, "Events", C rises: what a decoded rise takes in, and what a whole byte does.
-use Rattle.rules.specs.World.{ℕ, ◌+◌, ◌-◌, ◌*◌, ◌%◌, Bool, not, ◌&&◌, List, ◌++◌, set, take, replicate, eqb, ltb, min, if◌then◌else◌, number, Row, Input, Command, State, with_selection}
+use Rattle.std.specs.Prelude.{◌+◌, ◌-◌, ◌*◌, ◌%◌, ◌&&◌, ◌++◌, if◌then◌else◌}
+use Rattle.rules.specs.World.{ℕ, Bool, not, List, set, take, replicate, eqb, ltb, min, number, Row, Input, Command, State, with_selection}
 use Rattle.rules.specs.Instruction.{facts, decode, latches, turned_away, command_bytes, start_address, longer, lock_bit}
 
 -- A byte is the code, or the last or another byte of the address, or data. A command that was turned away has neither address nor data.

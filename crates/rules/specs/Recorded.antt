@@ -1,6 +1,7 @@
 -- Demand 3 said for the product: for every device number, from every world that the public calls take; for each of the seven devices; and for
 -- traces that the public call runs.
-use Rattle.rules.specs.World.{ℕ, zero, suc, ◌+◌, ◌*◌, ◌/◌, ◌%◌, ◌≤◌, ◌≡◌, Bool, true, ◌&&◌, List, [], ◌∷◌, ◌++◌, map, take, drop, length, eqb, ltb, number, Row, Event, World}
+use Rattle.std.specs.Prelude.{◌+◌, ◌*◌, ◌/◌, ◌%◌, ◌≤◌, ◌≡◌, ◌&&◌, ◌∷◌, ◌++◌}
+use Rattle.rules.specs.World.{ℕ, zero, suc, Bool, true, List, [], map, take, drop, length, eqb, ltb, number, Row, Event, World}
 use Rattle.rules.specs.Device.{m95128d, is_device, row_of, prepared}
 use Rattle.rules.specs.Event.{refusal, next}
 use Rattle.rules.specs.Sound.{all, Sound, Lent}

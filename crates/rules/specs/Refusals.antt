@@ -1,5 +1,5 @@
 -- 01, "Numbers given back", by example: all the tables of calls together.
-use Rattle.rules.specs.World.{◌++◌}
+use Rattle.std.specs.Prelude.{◌++◌}
 use Rattle.rules.specs.Lines.{Given}
 use Rattle.rules.specs.PrepareLines.{preparing}
 use Rattle.rules.specs.EventLines.{events}

@@ -1,5 +1,6 @@
 -- W-205 as statements: which page is answered, that the search stops there, and that right counts answer as the cells themselves do.
-use Rattle.rules.specs.World.{ℕ, ◌+◌, ◌*◌, ◌≤◌, ◌<◌, ◌≡◌, List, get_or, length, Row, Blank}
+use Rattle.std.specs.Prelude.{◌+◌, ◌*◌, ◌≤◌, ◌<◌, ◌≡◌}
+use Rattle.rules.specs.World.{ℕ, List, get_or, length, Row, Blank}
 use Rattle.rules.specs.Device.{row_of, page_count}
 use Rattle.rules.specs.Call.{count_outcome, found_number, page_number, blank_outcome}
 use Rattle.rules.specs.Counts.{Agree}

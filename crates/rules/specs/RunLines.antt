@@ -1,5 +1,6 @@
 -- A trace by example: each number that running one can give, with the records done, the bytes taken, the answers and all that is left.
-use Rattle.rules.specs.World.{ℕ, true, false, List, [], ◌∷◌, ◌++◌, replicate, Instruction, Kind, Level, State, World, world_of, with_pins, with_selection, with_stored, with_state}
+use Rattle.std.specs.Prelude.{◌∷◌, ◌++◌}
+use Rattle.rules.specs.World.{ℕ, true, false, List, [], replicate, Instruction, Kind, Level, State, World, world_of, with_pins, with_selection, with_stored, with_state}
 use Rattle.rules.specs.Device.{prepared_state}
 use Rattle.rules.specs.Trace.{Progress, progress_of}
 use Rattle.rules.specs.Lines.{Line, run, good, no_cells, no_identification, no_latch, no_counts, bad_mark, busy, in_cycle, miscounted, chosen, page_of_none}

@@ -1,5 +1,6 @@
 -- Demand 3: a selection whose decoded clock rises number zero, or are no multiple of eight, may be taken out.
-use Rattle.rules.specs.World.{ℕ, suc, ◌%◌, ◌≡◌, Bool, true, false, not, ◌&&◌, List, [], ◌∷◌, ◌++◌, eqb, if◌then◌else◌, Row, Level, Event, World}
+use Rattle.std.specs.Prelude.{◌%◌, ◌≡◌, ◌&&◌, ◌∷◌, ◌++◌, if◌then◌else◌}
+use Rattle.rules.specs.World.{ℕ, suc, Bool, true, false, not, List, [], eqb, Row, Level, Event, World}
 use Rattle.rules.specs.Device.{Widths, m95128d, prepared}
 use Rattle.rules.specs.Send.{status_byte}
 use Rattle.rules.specs.Event.{pins_after, decodes, answer, refusal, next, after}

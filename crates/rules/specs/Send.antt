@@ -1,5 +1,6 @@
 -- 01, "Events", C falls, and "Instructions", what is sent: READ, RDID, RDLS, RDSR.
-use Rattle.rules.specs.World.{Output, Source, Going, ℕ, ◌+◌, ◌-◌, ◌*◌, ◌%◌, Bool, true, false, not, ◌&&◌, List, get_or, eqb, leb, min, if◌then◌else◌, bit, number, Row, Level, State, with_selection}
+use Rattle.std.specs.Prelude.{◌+◌, ◌-◌, ◌*◌, ◌%◌, ◌&&◌, if◌then◌else◌}
+use Rattle.rules.specs.World.{Output, Source, Going, ℕ, Bool, true, false, not, List, get_or, eqb, leb, min, bit, number, Row, Level, State, with_selection}
 use Rattle.rules.specs.Instruction.{facts, busy, command_bytes}
 
 -- RDSR's byte: bit 0 WIP, 1 WEL, and the stored bits in their places.

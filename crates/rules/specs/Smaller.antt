@@ -1,6 +1,7 @@
 -- W-202 by example: what a person sees at the three smaller boards, each a prepared chip of full size. 5 is the M95010, 6 the M95020 and 7
 -- the M95128 without an identification page.
-use Rattle.rules.specs.World.{false, List, [], ◌∷◌, Event}
+use Rattle.std.specs.Prelude.{◌∷◌}
+use Rattle.rules.specs.World.{false, List, [], Event}
 use Rattle.rules.specs.Examples.{Act, ask, events, cell, latched, say, wren, status, pause, full, Line}
 use Rattle.rules.specs.Readings.{silence}
 

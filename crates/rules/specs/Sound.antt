@@ -1,6 +1,7 @@
 -- 01, "The device's state": the sound states, as a test that runs, and as a record of facts that theorems use.
-use Rattle.rules.specs.World.{◌++◌, State, ℕ, ◌+◌, ◌%◌, ◌^◌, ◌≤◌, ◌<◌, ◌≡◌, Bool, true, false, not, ◌&&◌, ◌||◌}
-use Rattle.rules.specs.World.{List, [], ◌∷◌, get_or, drop, length, eqb, leb, ltb, if◌then◌else◌, Row, Instruction, Kind, Level, Event, Selection, Input, Output, World}
+use Rattle.std.specs.Prelude.{◌++◌, ◌+◌, ◌%◌, ◌^◌, ◌≤◌, ◌<◌, ◌≡◌, ◌&&◌, ◌||◌, ◌∷◌, if◌then◌else◌}
+use Rattle.rules.specs.World.{State, ℕ, Bool, true, false, not}
+use Rattle.rules.specs.World.{List, [], get_or, drop, length, eqb, leb, ltb, Row, Instruction, Kind, Level, Event, Selection, Input, Output, World}
 use Rattle.std.specs.Bool.{beq}
 use Rattle.rules.specs.Device.{Widths, has_identification, page_count}
 use Rattle.rules.specs.Instruction.{facts, changes, busy}

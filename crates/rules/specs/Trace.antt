@@ -1,6 +1,7 @@
 -- 01, "Traces": records, and running them within a limit.
-use Rattle.rules.specs.World.{ℕ, zero, suc, ◌+◌, ◌-◌, ◌*◌, ◌/◌, ◌≡◌, Bool, not, ◌&&◌, ◌||◌}
-use Rattle.rules.specs.World.{List, [], ◌∷◌, ◌++◌, get_or, set, take, drop, length, eqb, leb, ltb, if◌then◌else◌, bit, Row, Level, Event, World}
+use Rattle.std.specs.Prelude.{◌+◌, ◌-◌, ◌*◌, ◌/◌, ◌≡◌, ◌&&◌, ◌||◌, ◌∷◌, ◌++◌, if◌then◌else◌}
+use Rattle.rules.specs.World.{ℕ, zero, suc, Bool, not}
+use Rattle.rules.specs.World.{List, [], get_or, set, take, drop, length, eqb, leb, ltb, bit, Row, Level, Event, World}
 use Rattle.rules.specs.Event.{step, answer, refusal}
 
 -- Little-endian numbers of two and four bytes.

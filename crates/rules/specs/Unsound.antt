@@ -1,6 +1,7 @@
 -- 01, "The device's state", by example: each clause of soundness broken alone, which gets 5 and changes nothing; and a state at the edge of every
 -- clause, which is taken. Each line is an event on an M95040, and those on W-202's clauses one on a device without an identification page.
-use Rattle.rules.specs.World.{ℕ, Bool, true, false, List, [], ◌∷◌, replicate, Instruction, Kind, Level, Event, State, World, world_of, with_pins, with_selection, with_stored, with_state}
+use Rattle.std.specs.Prelude.{◌∷◌}
+use Rattle.rules.specs.World.{ℕ, Bool, true, false, List, [], replicate, Instruction, Kind, Level, Event, State, World, world_of, with_pins, with_selection, with_stored, with_state}
 use Rattle.rules.specs.Device.{prepared_state}
 use Rattle.rules.specs.Call.{replied_as}
 use Rattle.rules.specs.Lines.{Line, event, good, astray, busy, chosen}

@@ -1,5 +1,6 @@
 -- A view, and the first record of the bench, by example: each number that they can give, with the part shown or the device named.
-use Rattle.rules.specs.World.{ℕ, List, [], ◌∷◌, ◌++◌, replicate, Region}
+use Rattle.std.specs.Prelude.{◌∷◌, ◌++◌}
+use Rattle.rules.specs.World.{ℕ, List, [], replicate, Region}
 use Rattle.rules.specs.Call.{shown_as, first_as}
 use Rattle.rules.specs.Lines.{Line, view, first, small}
 

@@ -1,5 +1,6 @@
 -- The words that every rule is written in: the world of one device, and setters that change one part of it and keep the rest.
-pub use Rattle.std.specs.Prelude.{ℕ, zero, suc, ◌+◌, ◌-◌, ◌*◌, ◌/◌, ◌%◌, ◌^◌, ◌≤◌, ◌<◌, min, ◌≡◌, Bool, true, false, not, ◌&&◌, ◌||◌, List, [], ◌∷◌, ◌++◌, map, get_or, set, take, drop, replicate, length, eqb, leb, ltb}
+use Rattle.std.specs.Prelude.{◌+◌, ◌-◌, ◌*◌, ◌/◌, ◌%◌, ◌^◌, ◌≤◌, ◌<◌, ◌≡◌, ◌&&◌, ◌||◌, ◌∷◌, ◌++◌}
+pub use Rattle.std.specs.Prelude.{ℕ, zero, suc, min, Bool, true, false, not, List, [], map, get_or, set, take, drop, replicate, length, eqb, leb, ltb}
 pub use Rattle.rules.specs.declared.Sheet.{Sheet}
 pub use Rattle.rules.specs.declared.Row.{Row}
 pub use Rattle.rules.specs.declared.Instruction.{Instruction}
@@ -21,11 +22,6 @@ pub use Rattle.rules.specs.declared.Registers.{Registers}
 pub use Rattle.rules.specs.declared.Stored.{Stored}
 pub use Rattle.rules.specs.declared.Cycle.{Cycle}
 pub use Rattle.rules.specs.declared.State.{State}
-
-infix 5 if◌then◌else◌
-abbrev pub if◌then◌else◌ {ℓ} : {A : Type ℓ} → Bool → A → A → A
-if◌then◌else◌ true a b = a
-if◌then◌else◌ false a b = b
 
 -- 01, "The device's state": the state, and the buffers that are lent; since W-204 a count for each page is among them.
 pub record World : Type 0 where

@@ -3,7 +3,8 @@
 -- From 12: eleven flags of 0 or 1, for C, D, S, HOLD, W, selected, held, W seen low, turned away, WEL and the lock.
 -- From 23: the instruction, the level of Q and the cycle, each by its place in its list.
 -- From 26: bits received, their value, whole bytes, the last; the byte being sent; status bits, a cycle's new ones; three that mean nothing.
-use Rattle.rules.specs.World.{ℕ, ◌/◌, ◌%◌, ◌^◌, Bool, ◌&&◌, List, [], ◌∷◌, ◌++◌, get_or, take, drop, length, eqb, leb, if◌then◌else◌, number, with_selection}
+use Rattle.std.specs.Prelude.{◌/◌, ◌%◌, ◌^◌, ◌&&◌, ◌∷◌, ◌++◌, if◌then◌else◌}
+use Rattle.rules.specs.World.{ℕ, Bool, List, [], get_or, take, drop, length, eqb, leb, number, with_selection}
 use Rattle.rules.specs.declared.Instruction.{Instruction}
 use Rattle.rules.specs.declared.Kind.{Kind}
 use Rattle.rules.specs.declared.Level.{Level}

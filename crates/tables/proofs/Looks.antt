@@ -1,4 +1,5 @@
 -- Looking a code, a row or an entry of the sheet up, in one step for each way through the code; and the arm that a value is taken by.
+use Rattle.std.specs.Prelude.{if◌then◌else◌}
 use Prim.Native.Nat.{ℕ, zero, suc, ◌-◌, ◌*◌, ◌≤◌}
 use mathlib.Core.Path.{◌≡◌, refl, sym, ap, ◌∙◌}
 use mathlib.Core.Bool.{Bool, true, false, not, ◌&&◌}
@@ -10,7 +11,7 @@ use Rattle.rules.specs.declared.Row.{Row}
 use Rattle.rules.specs.declared.Facts.{Facts}
 use Rattle.rules.specs.declared.Instruction.{Instruction}
 use Rattle.rules.specs.declared.Instruction.TheVariants.{Wren, Wrdi, Rdsr, Wrsr, Read, Write, Rdid, Wrid, Unknown}
-use Rattle.rules.specs.World.{if◌then◌else◌, bit, number}
+use Rattle.rules.specs.World.{bit, number}
 use Rattle.rules.specs.Device.{table, m95040, row_of, single, has_identification, first_protected}
 use Rattle.rules.specs.Instruction.{facts, look_up, codes, named, decode}
 

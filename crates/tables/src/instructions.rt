@@ -1,7 +1,7 @@
 // The instructions: which one a code names on a device, and the table of what each does.
 
-ghost use Rattle.std.specs.Prelude.{◌≡◌, ◌-◌, ◌*◌};
-ghost use Rattle.rules.specs.World.{if◌then◌else◌, bit, number};
+ghost use Rattle.std.specs.Prelude.{◌≡◌, ◌-◌, ◌*◌, if◌then◌else◌};
+ghost use Rattle.rules.specs.World.{bit, number};
 ghost use Rattle.rules.specs.Device.{single};
 ghost use Rattle.rules.specs.Instruction.{facts_of, facts, named, decode};
 

@@ -1,4 +1,5 @@
 -- Reading a record, one law for each way through the rules.
+use Rattle.std.specs.Prelude.{if◌then◌else◌}
 use Prim.Native.Nat.{ℕ, zero, suc, ◌+◌, ◌-◌, ◌*◌, ◌/◌, ◌≤◌, ◌<◌}
 use mathlib.Core.Path.{◌≡◌, refl, sym, ap, ◌∙◌}
 use mathlib.Core.Bool.{Bool, true, false, not}
@@ -9,7 +10,7 @@ use lib.Dec.{eqb, leb, ltb}
 use borrow.Author.Tests.{eq-eqb, ne_eqb, lt-ltb, le-ltb}
 use Rattle.rules.specs.declared.Row.{Row}
 use Rattle.rules.specs.declared.Event.{Event}
-use Rattle.rules.specs.World.{World, if◌then◌else◌, bit, world_of}
+use Rattle.rules.specs.World.{World, bit, world_of}
 use Rattle.rules.specs.Device.{prepared_state}
 use Rattle.rules.specs.Event.{refusal}
 use Rattle.rules.specs.Trace.{two, length_of, pin_event, event_at, bad_pin, record_refusal}

@@ -1,4 +1,5 @@
 -- What holds at every turn of a run, and how one turn keeps it.
+use Rattle.std.specs.Prelude.{if◌then◌else◌}
 use Prim.Native.Nat.{ℕ, ◌+◌, ◌-◌, ◌/◌, ◌≤◌, ◌<◌}
 use mathlib.Core.Path.{◌≡◌, refl, sym, ap, ◌∙◌, subst}
 use mathlib.Core.Bool.{Bool, true, false}
@@ -9,7 +10,7 @@ use lib.Dec.{eqb, leb, ltb}
 use borrow.Author.Tests.{ne_eqb, le-leb, lt-leb, ltb-true}
 use Rattle.rules.specs.declared.Row.{Row}
 use Rattle.rules.specs.declared.Event.{Event}
-use Rattle.rules.specs.World.{if◌then◌else◌, number, World}
+use Rattle.rules.specs.World.{number, World}
 use Rattle.rules.specs.Device.{Widths}
 use Rattle.rules.specs.Sound.{Sound, Lent}
 use Rattle.rules.specs.Event.{step, next, answer, refusal}

@@ -1,4 +1,5 @@
 -- The short ways: that a record which is sorted to one is what it seems, and that the way is the rules' step.
+use Rattle.std.specs.Prelude.{if◌then◌else◌}
 use Prim.Native.Nat.{ℕ, ◌+◌, ◌-◌, ◌*◌, ◌≤◌, min}
 use mathlib.Core.Path.{◌≡◌, refl, sym, ap, ◌∙◌, subst}
 use mathlib.Core.Bool.{Bool, true, false, not, ◌&&◌, ◌||◌, and-false}
@@ -14,7 +15,7 @@ use Rattle.rules.specs.declared.Source.{Source}
 use Rattle.rules.specs.declared.Output.{Output}
 use Rattle.rules.specs.declared.State.{State}
 use Rattle.rules.specs.declared.Event.{Event}
-use Rattle.rules.specs.World.{World, if◌then◌else◌, number, with_pins, with_selection, with_state, world_of}
+use Rattle.rules.specs.World.{World, number, with_pins, with_selection, with_state, world_of}
 use Rattle.rules.specs.Receive.{is_code, is_address, is_last, is_latched, address_after, latch_after, input_after, value, is_byte, risen, risen_latch}
 use Rattle.rules.specs.Send.{going, source_of, is_sending, shown_address, output_of, output_after, fallen}
 use Rattle.rules.specs.Event.{pins_after, decodes, react, step, refusal}

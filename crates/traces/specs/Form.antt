@@ -1,6 +1,5 @@
 -- What a record is refused with before its event is asked about: by its bytes and the room for its answer alone, whatever the device.
-use Rattle.std.specs.Prelude.{ℕ, ◌+◌, ◌-◌, Bool, not, List, length, eqb, ltb}
-use Rattle.rules.specs.World.{if◌then◌else◌}
+use Rattle.std.specs.Prelude.{ℕ, ◌+◌, ◌-◌, Bool, not, List, length, eqb, ltb, if◌then◌else◌}
 use Rattle.rules.specs.Trace.{two, length_of, bad_pin}
 
 unfoldable pub form_refusal : List ℕ → ℕ → Bool → ℕ

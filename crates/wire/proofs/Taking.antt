@@ -1,4 +1,5 @@
 -- What C's rise does, one law for each way through the rules.
+use Rattle.std.specs.Prelude.{if◌then◌else◌}
 use Prim.Native.Nat.{ℕ, ◌+◌, ◌%◌, ◌<◌, min}
 use mathlib.Core.Path.{◌≡◌, refl, sym, ap, ◌∙◌}
 use mathlib.Core.Bool.{Bool, true, false, not, ◌&&◌, true≢false}
@@ -13,7 +14,7 @@ use Rattle.rules.specs.declared.Facts.{Facts}
 use Rattle.rules.specs.declared.Input.{Input}
 use Rattle.rules.specs.declared.Command.{Command}
 use Rattle.rules.specs.declared.State.{State}
-use Rattle.rules.specs.World.{if◌then◌else◌, bit, with_selection}
+use Rattle.rules.specs.World.{bit, with_selection}
 use Rattle.rules.specs.Device.{Widths}
 use Rattle.rules.specs.Instruction.{facts, decode, busy, command_bytes, start_address, longer, lock_bit}
 use Rattle.rules.specs.Receive.{is_address, is_last, is_latched, command_after, rolled, address_after, cleared, marked, clears, latch_after, input_after, value, risen, risen_latch}

@@ -1,4 +1,5 @@
 -- What S's rise decides, one law for each way through the rules.
+use Rattle.std.specs.Prelude.{if◌then◌else◌}
 use Prim.Native.Nat.{ℕ}
 use mathlib.Core.Path.{◌≡◌, sym, ap, ◌∙◌}
 use mathlib.Core.Bool.{Bool, true, false, not, ◌&&◌, ◌||◌}
@@ -8,7 +9,7 @@ use Rattle.rules.specs.declared.Facts.{Facts}
 use Rattle.rules.specs.declared.Registers.{Registers}
 use Rattle.rules.specs.declared.Change.{Change}
 use Rattle.rules.specs.declared.State.{State}
-use Rattle.rules.specs.World.{if◌then◌else◌, with_stored}
+use Rattle.rules.specs.World.{with_stored}
 use Rattle.rules.specs.Instruction.{facts, changes}
 use Rattle.rules.specs.Judge.{storable, is_done, start_of, judged}
 

@@ -1,4 +1,5 @@
 -- What a wait finishes, one law for each way through the rules.
+use Rattle.std.specs.Prelude.{if◌then◌else◌}
 use Prim.Native.Nat.{ℕ, ◌-◌}
 use mathlib.Core.Path.{◌≡◌, refl, sym, ap, ◌∙◌}
 use mathlib.Core.Bool.{Bool, true, false, not, ◌&&◌, ◌||◌, and-true, and-false, or-false, true≢false}
@@ -9,7 +10,7 @@ use Rattle.rules.specs.declared.Row.{Row}
 use Rattle.rules.specs.declared.Kind.{Kind}
 use Rattle.rules.specs.declared.Change.{Change}
 use Rattle.rules.specs.declared.State.{State}
-use Rattle.rules.specs.World.{if◌then◌else◌, with_stored, world_of}
+use Rattle.rules.specs.World.{with_stored, world_of}
 use Rattle.rules.specs.Device.{Widths}
 use Rattle.rules.specs.Instruction.{changes}
 use Rattle.rules.specs.Cycle.{written, recounted, ends, waited_state, waited}

@@ -1,7 +1,7 @@
 // Time passes: what the end of a cycle changes.
 
-ghost use Rattle.std.specs.Prelude.{◌≡◌, ◌&&◌, ◌-◌, length};
-ghost use Rattle.rules.specs.World.{if◌then◌else◌, world_of};
+ghost use Rattle.std.specs.Prelude.{◌≡◌, ◌&&◌, ◌-◌, length, if◌then◌else◌};
+ghost use Rattle.rules.specs.World.{world_of};
 ghost use Rattle.rules.specs.Device.{Widths, page_count};
 ghost use Rattle.rules.specs.Instruction.{changes};
 ghost use Rattle.rules.specs.Cycle.{is_miscounted, ends, waited_state, waited};

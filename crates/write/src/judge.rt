@@ -1,8 +1,7 @@
 // S rises: whether the command is done, and what a done one sets or starts.
 
-ghost use Rattle.std.specs.Prelude.{◌≡◌, ◌<◌};
+ghost use Rattle.std.specs.Prelude.{◌≡◌, ◌<◌, if◌then◌else◌};
 ghost use Rattle.rules.specs.Device.{Widths};
-ghost use Rattle.rules.specs.World.{if◌then◌else◌};
 ghost use Rattle.rules.specs.Judge.{storable, blocks, is_protected, is_shut, allows, is_complete, is_dropped, is_done, start_of, judged};
 
 use rules::{Cycle, Kind, Row, State};
