@@ -3,23 +3,23 @@
 
 #![tactic(auto)]
 
-mod pages;
 mod preparing;
 mod running;
+mod viewing;
 
 fn main() {
     preparing::prepares();
     preparing::prepares_smaller();
     preparing::refuses_a_page();
     preparing::refuses_counts();
-    pages::counts_pages();
-    pages::finds_room();
-    pages::finds_no_room();
+    viewing::counts_pages();
+    viewing::finds_room();
+    viewing::finds_no_room();
     preparing::loads();
     preparing::judges();
     preparing::tells_status();
-    pages::views_cells();
-    pages::views_identification();
+    viewing::views_cells();
+    viewing::views_identification();
     running::replies();
     running::refuses_a_wrong_count();
     running::writes_in_hold();

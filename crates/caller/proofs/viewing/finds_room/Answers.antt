@@ -1,10 +1,10 @@
--- `caller::pages::finds_room` meets its contract.
+-- `caller::viewing::finds_room` meets its contract.
 use mathlib.Core.Path.{◌≡◌, sym, ap, ◌∙◌}
 use native.Mathlib.Omega.{arith}
 use borrow.Author.Tests.{eq-eqb}
 use Rattle.rules.specs.declared.Blank.{Blank}
 use Rattle.rules.specs.Call.{lowest, found_number, page_number, Found, blank_outcome}
-use Rattle.caller.proofs.pages.finds_room.Goals as goal
+use Rattle.caller.proofs.viewing.finds_room.Goals as goal
 
 pub expect-requires : goal.expect-requires
 unfolding lowest blank_outcome

@@ -1,10 +1,10 @@
--- `caller::pages::counts_pages` meets its contract.
+-- `caller::viewing::counts_pages` meets its contract.
 use Rattle.rules.specs.Cycle.{filled}
 use Rattle.rules.specs.Call.{Counted, recounted_to, count_outcome}
 use mathlib.Core.Path.{ap}
 use lib.ListN.{get_or}
 use borrow.Author.Tests.{eq-eqb}
-use Rattle.caller.proofs.pages.counts_pages.Goals as goal
+use Rattle.caller.proofs.viewing.counts_pages.Goals as goal
 
 pub expect-requires : goal.expect-requires
 unfolding count_outcome

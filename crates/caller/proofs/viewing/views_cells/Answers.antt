@@ -1,10 +1,10 @@
--- `caller::pages::views_identification` meets its contract.
+-- `caller::viewing::views_cells` meets its contract.
 use native.Mathlib.Omega.{arith}
 use lib.ListN.{length, get_or}
 use Rattle.rules.specs.Call.{memory_refusal, part_of, is_past, Shown, view_outcome}
 use mathlib.Core.Path.{ap}
 use borrow.Author.Tests.{eq-eqb}
-use Rattle.caller.proofs.pages.views_identification.Goals as goal
+use Rattle.caller.proofs.viewing.views_cells.Goals as goal
 
 pub expect-requires : goal.expect-requires
 unfolding memory_refusal part_of is_past view_outcome
@@ -20,12 +20,12 @@ bounds-page-15 c = rw (ap (λ (x : Shown). length x.part) c.view-page.ensures) (
 
 pub expect-requires-3 : goal.expect-requires-3
 unfolding memory_refusal part_of is_past view_outcome
-expect-requires-3 c = eq-eqb _ 7 (ap (λ (x : Shown). get_or x.part 15 0) c.view-page.ensures)
+expect-requires-3 c = eq-eqb _ 0 (ap (λ (x : Shown). get_or x.part 15 0) c.view-page.ensures)
 
 pub expect-requires-4 : goal.expect-requires-4
 unfolding memory_refusal part_of is_past view_outcome
-expect-requires-4 c = eq-eqb _ 2 (ap (λ (x : Shown). x.number) c.view-none.ensures)
+expect-requires-4 c = eq-eqb _ 13 (ap (λ (x : Shown). x.number) c.view-past.ensures)
 
 pub expect-requires-5 : goal.expect-requires-5
 unfolding memory_refusal part_of is_past view_outcome
-expect-requires-5 c = eq-eqb _ 0 (ap (λ (x : Shown). length x.part) c.view-none.ensures)
+expect-requires-5 c = eq-eqb _ 0 (ap (λ (x : Shown). length x.part) c.view-past.ensures)
