@@ -1,5 +1,5 @@
 -- The words that every rule is written in: the world of one device, and setters that change one part of it and keep the rest.
-use Rattle.std.specs.Prelude.{◌+◌, ◌-◌, ◌*◌, ◌/◌, ◌%◌, ◌^◌, ◌≤◌, ◌<◌, ◌≡◌, ◌&&◌, ◌||◌, ◌∷◌, ◌++◌}
+use Rattle.std.specs.Prelude.{◌/◌, ◌%◌, ◌^◌, ◌∷◌}
 pub use Rattle.std.specs.Prelude.{ℕ, zero, suc, min, Bool, true, false, not, List, [], map, get_or, set, take, drop, replicate, length, eqb, leb, ltb}
 pub use Rattle.rules.specs.declared.Sheet.{Sheet}
 pub use Rattle.rules.specs.declared.Row.{Row}
