@@ -1,5 +1,6 @@
 // Document 01's bench program: it reads a first record and a trace from standard input, and prints each record's answer. What it
 // prints is one function of what it reads, `program::bench_text`; here are the reading and the writing.
+
 #![tactic(auto)]
 
 mod program;

@@ -16,7 +16,8 @@ fn first_refused(input: &[u8]) -> usize
     ensures { result ≡ (first_record input.now).number }
 {
     let length = input.len();
-    if 32768 < length {
+    let is_too_long = 32768 < length;
+    if is_too_long {
         return 12;
     }
     if length < 4 {
@@ -35,7 +36,8 @@ fn first_refused(input: &[u8]) -> usize
     if device < 1 {
         return 1;
     }
-    if 2 < device {
+    let is_past = 2 < device;
+    if is_past {
         return 1;
     }
     0

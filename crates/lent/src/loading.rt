@@ -19,7 +19,8 @@ fn stored_refused(device: u8, stored: Stored) -> usize
         return 5;
     }
     let most = tables::has_identification(row) as u8;
-    if most < stored.lock {
+    let is_over = most < stored.lock;
+    if is_over {
         return 5;
     }
     0

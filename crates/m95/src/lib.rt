@@ -74,7 +74,8 @@ pub fn event(
     }
     let row = tables::row_of(device);
     let tried = chip::event::attempt(row, s, cells, identification, latch, counts, event);
-    if tried.number != 0 {
+    let is_refused = tried.number != 0;
+    if is_refused {
         let kept = tried.state;
         return Replied {
             number: tried.number,

@@ -5,6 +5,7 @@
 // read, and NEW is open, before ANSWERS is opened.
 //
 // play blank DEVICE CHIP: says where there is room on a chip, 'blank' and the number of its first blank page, or 'blank none'.
+
 #![tactic(auto)]
 
 mod words;

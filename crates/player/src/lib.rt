@@ -1,4 +1,5 @@
 // What play is made of: a chip's stored contents in a file, a trace run in pieces, the last line, and the line on a chip's room.
+
 #![tactic(auto)]
 
 pub mod contents;

@@ -20,8 +20,8 @@ attempt-tried-requires c =
     let good = fine-row given.device lent row.result judged.result row.ensures judged.ensures c.if-number-ne0.false in
     record { widths = (good.0, good.1); lent = good.2 }
 
-pub returns-then-tried-ne0 : goal.returns-then-tried-ne0
-returns-then-tried-ne0 c =
+pub returns-then-is_refused : goal.returns-then-is_refused
+returns-then-is_refused c =
     let given = c.args in
     let lent = world_of given.s given.cells.now given.identification.now given.latch.now given.counts.now in
     let judged = c.world_refused-number in
@@ -29,7 +29,7 @@ returns-then-tried-ne0 c =
     let tried = c.attempt-tried in
     event-barred given.device lent given.event judged.result judged.ensures c.if-number-ne0.false row.result row.ensures tried.result.number
     tried.ensures.0 _ tried.ensures.1
-    (omega (arith, c.if-tried-ne0.true))
+    (omega (arith, c.if-is_refused.true))
 
 pub returns : goal.returns
 returns c =
@@ -39,4 +39,4 @@ returns c =
     let row = c.row_of-row in
     let tried = c.attempt-tried in
     event-done given.device lent given.event judged.result judged.ensures c.if-number-ne0.false row.result row.ensures tried.result.number tried.ensures.0 _ tried.ensures.1
-    c.answer-answer.result (omega (arith, c.if-tried-ne0.false)) c.answer-answer.ensures
+    c.answer-answer.result (omega (arith, c.if-is_refused.false)) c.answer-answer.ensures

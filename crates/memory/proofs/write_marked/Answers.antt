@@ -1,11 +1,10 @@
--- `memory::write_marked` meets its contract. The test of a mark is handed to `omega`, so that its meaning counts and not its spelling.
+-- `memory::write_marked` meets its contract. The test of a mark is handed to `grind`, so that its meaning counts and not its spelling.
 use Rattle.rules.specs.Cycle.{written}
-use lib.ListN.{length, length-set}
-use mathlib.Core.Path.{◌≡◌, refl, ap, ◌∙◌}
+use lib.ListN.{length-set}
+use mathlib.Core.Path.{◌≡◌, refl}
 use native.Mathlib.Omega.{arith}
 use Rattle.memory.proofs.Laws.{written-set, written-keep}
 use Rattle.memory.proofs.write_marked.Goals as goal
-use Rattle.memory.proofs.write_marked.Goals.{then-latch-page-eq1, else-latch-page-eq1}
 
 pub loop-i-init : goal.loop-i-init
 unfolding written
@@ -33,21 +32,7 @@ pub loop-i-smaller : goal.loop-i-smaller
 loop-i-smaller c = omega arith
 
 pub loop-i-preserved : goal.loop-i-preserved
-loop-i-preserved c =
-    let l = c.loop-i in
-    let a = c.args in
-    elim c.if-latch-page-eq1.branch [
-      | then-latch-page-eq1 w ↦ (
-        omega arith,
-        ap length w.bytes-is ∙ simp length-set l.invariant.1,
-        cc (written-set a.row.page a.latch.now a.start a.bytes.now l.i (omega arith)),
-      )
-      | else-latch-page-eq1 w ↦ (
-        omega arith,
-        ap length w.bytes-is ∙ l.invariant.1,
-        cc (written-keep a.row.page a.latch.now a.start a.bytes.now l.i (omega arith)),
-      )
-    ]
+loop-i-preserved c = grind (arith, written-set, written-keep, length-set)
 
 pub shape_of-bytes : goal.shape_of-bytes
 shape_of-bytes c = omega arith

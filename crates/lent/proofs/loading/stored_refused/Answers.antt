@@ -1,6 +1,7 @@
 -- `lent::loading::stored_refused` meets its contract. The test of the lock is handed to `omega`, so that its meaning counts and not its spelling.
 use mathlib.Core.Path.{ap, ◌∙◌}
 use native.Mathlib.Omega.{arith}
+use borrow.Author.Tests.{ltb-true, ltb-false}
 use Rattle.rules.specs.World.{number}
 use Rattle.bits.proofs.Masks.{byte-number}
 use Rattle.lent.proofs.Lending.{load-device, load-bits, load_lock, load-whole}
@@ -22,15 +23,15 @@ returns-then-bits-stored c =
     load-bits c.args.device c.args.stored row.result known.result row.ensures known.ensures bits.result bits.ensures
     c.if-not-is_device.false-raw c.if-bits-stored.true
 
-pub returns-then-most-stored : goal.returns-then-most-stored
-returns-then-most-stored c =
+pub returns-then-is_over : goal.returns-then-is_over
+returns-then-is_over c =
     let has = c.has_identification-most in
     let most = byte-number has.result ∙ ap number has.ensures in
     let row = c.row_of-row in
     let bits = c.stored-bits in
     let known = c.is_device in
     load_lock c.args.device c.args.stored row.result known.result row.ensures known.ensures bits.result bits.ensures
-    c.if-not-is_device.false-raw c.if-bits-stored.false (omega (arith, c.if-most-stored.true, most))
+    c.if-not-is_device.false-raw c.if-bits-stored.false (omega (arith, ltb-true, most))
 
 pub returns : goal.returns
 returns c =
@@ -40,4 +41,4 @@ returns c =
     let bits = c.stored-bits in
     let known = c.is_device in
     load-whole c.args.device c.args.stored row.result known.result row.ensures known.ensures bits.result bits.ensures
-    c.if-not-is_device.false-raw c.if-bits-stored.false (omega (arith, c.if-most-stored.false, most))
+    c.if-not-is_device.false-raw c.if-bits-stored.false (omega (arith, ltb-false, most))
