@@ -72,7 +72,8 @@ pub fn write_marked(row: Row, latch: &[u8], start: usize, bytes: &mut [u8])
 {
     let page = row.page;
     for i in 0..page {
-        if latch[page + i] == 1 {
+        let is_marked = latch[page + i] == 1;
+        if is_marked {
             bytes[start + i] = latch[i];
         }
     }
