@@ -1,7 +1,7 @@
 -- `bench::program::first_refused` meets its contract. The tests on the length and the device are handed to `omega`, so that their meaning counts and not their spelling.
 use native.Mathlib.Omega.{arith}
 use borrow.Author.Tests.{ltb-true, ltb-false}
-use Rattle.bench.proofs.Printing.{first-long, first_head, first_kind, first-length, first_body, headed, first_below, first_above, first_good}
+use Rattle.bench.proofs.Printing.{Headed, first-long, first_head, first_kind, first-length, first_body, headed, first_below, first_above, first_good}
 use Rattle.bench.proofs.program.first_refused.Goals as goal
 
 pub returns-then-is_too_long : goal.returns-then-is_too_long
@@ -26,10 +26,22 @@ returns-then-length-lt5 c =
     c.two_at-2.ensures c.if-two_at-ne3.false c.if-length-lt5.true
 
 pub returns-then-device-lt1 : goal.returns-then-device-lt1
-returns-then-device-lt1 c = first_below (headed (omega (arith, ltb-false)) c.if-length-lt4.false c.two_at.ensures c.if-two_at-ne16.false c.two_at-2.ensures c.if-two_at-ne3.false c.if-length-lt5.false) (omega (arith, c.if-device-lt1.true))
+returns-then-device-lt1 c =
+    let first : Headed c.args.input.now =
+    headed (omega (arith, ltb-false)) c.if-length-lt4.false c.two_at.ensures c.if-two_at-ne16.false c.two_at-2.ensures
+    c.if-two_at-ne3.false c.if-length-lt5.false in
+    first_below first (omega (arith, c.if-device-lt1.true))
 
 pub returns-then-is_past : goal.returns-then-is_past
-returns-then-is_past c = first_above (headed (omega (arith, ltb-false)) c.if-length-lt4.false c.two_at.ensures c.if-two_at-ne16.false c.two_at-2.ensures c.if-two_at-ne3.false c.if-length-lt5.false) (omega (arith, c.if-device-lt1.false)) (omega (arith, ltb-true))
+returns-then-is_past c =
+    let first : Headed c.args.input.now =
+    headed (omega (arith, ltb-false)) c.if-length-lt4.false c.two_at.ensures c.if-two_at-ne16.false c.two_at-2.ensures
+    c.if-two_at-ne3.false c.if-length-lt5.false in
+    first_above first (omega (arith, c.if-device-lt1.false)) (omega (arith, ltb-true))
 
 pub returns : goal.returns
-returns c = first_good (headed (omega (arith, ltb-false)) c.if-length-lt4.false c.two_at.ensures c.if-two_at-ne16.false c.two_at-2.ensures c.if-two_at-ne3.false c.if-length-lt5.false) (omega (arith, c.if-device-lt1.false)) (omega (arith, ltb-false))
+returns c =
+    let first : Headed c.args.input.now =
+    headed (omega (arith, ltb-false)) c.if-length-lt4.false c.two_at.ensures c.if-two_at-ne16.false c.two_at-2.ensures
+    c.if-two_at-ne3.false c.if-length-lt5.false in
+    first_good first (omega (arith, c.if-device-lt1.false)) (omega (arith, ltb-false))
