@@ -15,7 +15,7 @@ fn main(rt: HostRuntime) {
     let mut out = [0u8; 196608];
     let mut source = rt.stdin();
     let read = files::read_up(&mut source, &mut input);
-    if read.failed {
+    if read.error.is_some() {
         let _ = rt.eprint("bench: standard input could not be read to its end; nothing was run\n");
         return;
     }

@@ -14,11 +14,10 @@ use std::rt::Files;
 // The system's number for bytes that are no text.
 const EILSEQ: i32 = 84;
 
-// How many bytes came to the start of the buffer, whether a read failed before the buffer was full or the input ended, and why.
+// How many bytes came to the start of the buffer, and why a read failed, if one did before the buffer was full or the input ended.
 #[derive(Clone, Copy)]
 pub struct Read {
     pub count: usize,
-    pub failed: bool,
     pub error: Option<Error>,
 }
 
@@ -27,30 +26,22 @@ pub fn read_up<S: std::io::Read>(source: &mut S, buf: &mut [u8]) -> Read
     ensures { IsPrefixLen result.count buf.new }
 {
     let mut count = 0;
-    let mut error = None;
-    let mut going = true;
-    while going {
-        let mut more = 0;
+    let error = loop {
         match source.read(&mut buf[count..]) {
-            Ok(got) => more = got,
-            Err(failure) => error = Some(failure),
+            Ok(0) => break None,
+            Ok(more) => count += more,
+            Err(error) => break Some(error),
         }
-        count += more;
-        going = (0 < more) & (count < buf.len());
-    }
-    Read {
-        count: count,
-        failed: error.is_some(),
-        error: error,
-    }
+        if count == buf.len() {
+            break None;
+        }
+    };
+    Read { count, error }
 }
 
 // A name as std takes it.
 fn text_of(path: &[u8]) -> std::io::Result<&str> {
-    match std::str::from_utf8(path) {
-        Ok(text) => Ok(text),
-        Err(_) => Err(Error::from_raw_os_error(EILSEQ)),
-    }
+    std::str::from_utf8(path).map_err(|_| Error::from_raw_os_error(EILSEQ))
 }
 
 // Opens a file for reading.
