@@ -7,7 +7,7 @@ use native.Mathlib.Nat.{pow-suc, one-le-pow}
 use native.Mathlib.Numerals.{add-one}
 use native.Mathlib.Omega.{arith}
 use lib.ListN.{length, get_or, take, length-append, length-take}
-use lib.Seq.{length-take-le, take_all, take-suc}
+use lib.Seq.{length-take-le, take-suc}
 use lib.Dec.{ltb, lit<}
 use borrow.Author.Tests.{lt-ltb, ltb-true, ltb-false}
 use Rattle.io.specs.Counts.{IsPrefixLen}
@@ -118,19 +118,12 @@ ending-short number status =
     let start : List ℕ = 101 ∷ 110 ∷ 100 ∷ 32 ∷ [] in
     rw (length-append (start ++ decimal number ++ (32 ∷ [])) status, length-append (start ++ decimal number) (32 ∷ []), length-append start (decimal number)) (omega (arith, decimal-short number))
 
--- Nothing was put yet.
-pub none : (out : List ℕ) (at : ℕ) → Put out at [] out at
-none out at = record { place = omega arith; long = refl; stands = sym (append-nil (take at out)) }
-
 pub line-put : {a b c : List ℕ} {i j k d : ℕ} (n answer : ℕ) → d ≡ shown answer → Put a i (decimal n) b j → Put b j (32 ∷ d ∷ 10 ∷ []) c k → Put a i (line n answer) c k
 line-put n answer e p q = same_text (ap (λ (m : ℕ). decimal n ++ (32 ∷ m ∷ 10 ∷ [])) e) (joined p q)
 
 pub lines-put : {a b c : List ℕ} {i j k n : ℕ} (answers : List ℕ) (done : ℕ) → done < length answers → Put a i (lines 1 (take done answers)) b j → Put b j (line n (get_or answers done 0)) c k
     → n ≡ done + 1 → Put a i (lines 1 (take (done + 1) answers)) c k
 lines-put answers done h p q e = same_text (ap (λ (m : ℕ). lines 1 (take done answers) ++ line m (get_or answers done 0)) e ∙ lines_at answers done h) (joined p q)
-
-pub all-put : {a b : List ℕ} {i j : ℕ} (answers : List ℕ) (done : ℕ) → length answers ≤ done → Put a i (lines 1 (take done answers)) b j → Put a i (lines 1 answers) b j
-all-put answers done h p = same_text (ap (lines 1) (take_all done answers h)) p
 
 -- A text put at the start of a buffer, as what stands there and how much.
 pub whole : (before text after : List ℕ) (next : ℕ) → Put before 0 text after next → IsPrefixLen next after × (take next after ≡ text)

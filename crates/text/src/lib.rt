@@ -39,21 +39,17 @@ pub fn hexadecimal(byte: usize) -> [u8; 2]
     requires { byte < 256 }
     ensures { result ≡ Program·hexadecimal byte }
 {
-    let high = digit((byte / 16) as u8);
-    let low = digit((byte % 16) as u8);
-    [high, low]
+    [digit((byte / 16) as u8), digit((byte % 16) as u8)]
 }
 
 // An answer byte as it is shown: 0, 1 or Z.
 fn shown(answer: u8) -> u8
     ensures { result ≡ Program·shown answer }
 {
-    if answer == 0 {
-        b'0'
-    } else if answer == 1 {
-        b'1'
-    } else {
-        b'Z'
+    match answer {
+        0 => b'0',
+        1 => b'1',
+        _ => b'Z',
     }
 }
 
@@ -63,8 +59,7 @@ pub fn put_line(number: u64, answer: u8, out: &mut [u8], at: usize) -> usize
     ensures { Put out.old at (line number answer) out.new result }
 {
     let after = put_decimal(number, out, at);
-    let rest = [b' ', shown(answer), b'\n'];
-    put(&rest, out, after)
+    put(&[b' ', shown(answer), b'\n'], out, after)
 }
 
 // A line for each answer, with numbers from 1. No line is longer than 23 bytes.
@@ -73,8 +68,8 @@ pub fn put_lines(answers: &[u8], out: &mut [u8], at: usize) -> usize
     ensures { Put out.old at (lines 1 answers.now) out.new result }
 {
     let mut place = at;
-    for i in 0..answers.len() {
-        place = put_line(i as u64 + 1, answers[i], out, place);
+    for (i, answer) in answers.iter().enumerate() {
+        place = put_line(i as u64 + 1, *answer, out, place);
     }
     place
 }

@@ -1,12 +1,7 @@
 -- `text::put_line` meets its contract.
 use native.Mathlib.Omega.{arith}
-use Rattle.text.proofs.Putting.{decimal-short, line-put}
+use Rattle.text.proofs.Putting.{decimal-short}
 use Rattle.text.proofs.put_line.Goals as goal
 
 pub put-requires : goal.put-requires
-put-requires c =
-    omega (arith, c.requires, decimal-short c.args.number, c.put_decimal-after.ensures.place, c.put_decimal-after.ensures.long)
-
-pub returns : goal.returns
-returns c =
-    line-put c.args.number c.args.answer c.shown.ensures c.put_decimal-after.ensures c.put.ensures
+put-requires c = omega (arith, c.requires, decimal-short c.args.number, c.put_decimal-after.ensures)
