@@ -16,7 +16,7 @@ use playthrough::say::complain;
 use std::fs::OpenOptions;
 use std::os::fd::AsRawFd;
 use std::rt::{Env, Files};
-use words::{count_words, device_named, is_same, is_twice, word_at};
+use words::{count_words, device_named, is_twice, word_at};
 
 // Says which devices there are.
 fn name_devices<E: Print>(errors: &E) {
@@ -38,25 +38,24 @@ fn name_words<E: Print>(errors: &E) {
 fn play<R: Files + Print, E: Print>(
     rt: &R,
     errors: &E,
-    word: &[u8],
-    chip: &[u8],
-    trace: &[u8],
-    answers: &[u8],
-    new: &[u8],
+    word: Option<&[u8]>,
+    chip: Option<&[u8]>,
+    trace: Option<&[u8]>,
+    answers: Option<&[u8]>,
+    new: Option<&[u8]>,
 ) {
-    let device = device_named(word);
-    if device == 0 {
+    let Some(device) = word.and_then(device_named) else {
         name_devices(errors);
         return;
-    }
-    if (chip.len() == 0) | (trace.len() == 0) | (answers.len() == 0) | (new.len() == 0) {
+    };
+    let (Some(chip), Some(trace), Some(answers), Some(new)) = (chip, trace, answers, new) else {
         complain(
             errors,
             b"play: the name of a file is empty, or longer than 4096 bytes\n",
         );
         return;
-    }
-    if is_twice(chip, trace, answers, new) {
+    };
+    if is_twice(&[chip, trace, answers, new]) {
         complain(
             errors,
             b"play: CHIP, TRACE, ANSWERS and NEW must be four files\n",
@@ -67,23 +66,28 @@ fn play<R: Files + Print, E: Print>(
 }
 
 // Says where there is room on a chip, if the words are good.
-fn ask<R: Files + Print, E: Print>(rt: &R, errors: &E, what: &[u8], word: &[u8], chip: &[u8]) {
-    if !is_same(what, b"blank") {
+fn ask<R: Files + Print, E: Print>(
+    rt: &R,
+    errors: &E,
+    what: Option<&[u8]>,
+    word: Option<&[u8]>,
+    chip: Option<&[u8]>,
+) {
+    let Some(b"blank") = what else {
         name_words(errors);
         return;
-    }
-    let device = device_named(word);
-    if device == 0 {
+    };
+    let Some(device) = word.and_then(device_named) else {
         name_devices(errors);
         return;
-    }
-    if chip.len() == 0 {
+    };
+    let Some(chip) = chip else {
         complain(
             errors,
             b"play: the name of CHIP is empty, or longer than 4096 bytes\n",
         );
         return;
-    }
+    };
     ask_device(rt, errors, device, chip);
 }
 
@@ -106,10 +110,13 @@ fn ask_words<R: Env + Files + Print, E: Print>(rt: &R, errors: &E) {
     let mut what = io::buffer();
     let mut word = io::buffer();
     let mut chip = io::buffer();
-    let q = word_at(rt, 1, &mut what);
-    let w = word_at(rt, 2, &mut word);
-    let c = word_at(rt, 3, &mut chip);
-    ask(rt, errors, &what[..q], &word[..w], &chip[..c]);
+    ask(
+        rt,
+        errors,
+        word_at(rt, 1, &mut what),
+        word_at(rt, 2, &mut word),
+        word_at(rt, 3, &mut chip),
+    );
 }
 
 // Reads the words of a run, and plays it.
@@ -119,19 +126,14 @@ fn play_words<R: Env + Files + Print, E: Print>(rt: &R, errors: &E) {
     let mut trace = io::buffer();
     let mut answers = io::buffer();
     let mut new = io::buffer();
-    let w = word_at(rt, 1, &mut word);
-    let c = word_at(rt, 2, &mut chip);
-    let t = word_at(rt, 3, &mut trace);
-    let a = word_at(rt, 4, &mut answers);
-    let n = word_at(rt, 5, &mut new);
     play(
         rt,
         errors,
-        &word[..w],
-        &chip[..c],
-        &trace[..t],
-        &answers[..a],
-        &new[..n],
+        word_at(rt, 1, &mut word),
+        word_at(rt, 2, &mut chip),
+        word_at(rt, 3, &mut trace),
+        word_at(rt, 4, &mut answers),
+        word_at(rt, 5, &mut new),
     );
 }
 

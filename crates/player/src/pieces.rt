@@ -61,7 +61,6 @@ fn read_on<S: std::io::Read>(is_over: bool, trace: &mut S, buf: &mut [u8]) -> Re
     if is_over {
         return Read {
             count: 0,
-            failed: false,
             error: None,
         };
     }
@@ -114,8 +113,8 @@ fn play_piece<S: std::io::Read, W: Write>(
         records: std::num::wrapping_add_u64(p.records, done as u64),
         bytes: std::num::wrapping_add_u64(p.bytes, ran.taken as u64),
         state: after,
-        ended: is_over | (read.count == 0) | read.failed,
-        unread: read.failed,
+        ended: is_over | (read.count == 0) | read.error.is_some(),
+        unread: read.error.is_some(),
         unwritten: !is_written,
         error: unwritten.or(read.error),
     }

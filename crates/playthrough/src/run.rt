@@ -128,7 +128,7 @@ fn begin_open<F: std::io::Read + Drop, E: Print>(
 {
     let mut input = file;
     let read = files::read_up(&mut input, buf);
-    if read.failed {
+    if read.error.is_some() {
         fail(errors, b"play: cannot read the trace ", trace, read.error);
         return Begun {
             input: None,
