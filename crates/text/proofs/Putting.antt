@@ -130,3 +130,5 @@ pub whole : (before text after : List ℕ) (next : ℕ) → Put before 0 text af
 whole before text after next p =
     let same : next ≡ length (take next after) = p.place ∙ rw p.stands (omega arith) in
     ((omega (arith, same, length-take next after), same), p.stands)
+
+pub ruleset lengths = (decimal-short)

@@ -54,6 +54,7 @@ fn shown(answer: u8) -> u8
 }
 
 // The line of one record.
+#[tactic(auto, using(crate::proofs::Putting::lengths))]
 pub fn put_line(number: u64, answer: u8, out: &mut [u8], at: usize) -> usize
     requires { at + 23 ≤ length out.old }
     ensures { Put out.old at (line number answer) out.new result }
@@ -75,6 +76,7 @@ pub fn put_lines(answers: &[u8], out: &mut [u8], at: usize) -> usize
 }
 
 // How a run ended: its number and the status, with no line end.
+#[tactic(auto, using(crate::proofs::Putting::lengths))]
 pub fn put_ending(number: u64, status: &[u8], out: &mut [u8], at: usize) -> usize
     requires { at + 25 + length status.now ≤ length out.old }
     ensures { Put out.old at (ending number status.now) out.new result }
