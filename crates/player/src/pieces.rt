@@ -2,16 +2,21 @@
 // run whole, and 6 is given only where the trace really ends within a record.
 
 ghost use Rattle.std.specs.Prelude.{◌≡◌, ◌-◌, ◌≤◌, length, take, drop, ◌≢◌};
-ghost use Rattle.io.specs.Counts.{IsPrefixLen};
 ghost use Rattle.rules.specs.World.{world_of};
 ghost use Rattle.player.specs.Playing.{Playable};
 
-use files::Read;
 use rules::State;
 use std::io::{Error, Write};
 
-// Where a run stands: the number, if it has ended; what was done; the bytes in the buffer that are still to run; whether a read
-// or a write failed, and why.
+// What went wrong with a run's files, and why: the trace cannot be read to its end, or the answers cannot be written.
+#[derive(Clone, Copy)]
+pub enum Trouble {
+    Unread(Error),
+    Unwritten(Error),
+}
+
+// Where a run stands: the number of its last record; what was done; the bytes in the buffer that are still to run; whether the run has
+// ended, and what went wrong, if anything did.
 #[derive(Clone, Copy)]
 pub struct Played {
     pub number: usize,
@@ -20,9 +25,7 @@ pub struct Played {
     pub bytes: u64,
     pub state: State,
     pub ended: bool,
-    pub unread: bool,
-    pub unwritten: bool,
-    pub error: Option<Error>,
+    pub trouble: Option<Trouble>,
 }
 
 // The start of a run, with so many bytes in the buffer.
@@ -31,14 +34,12 @@ pub fn started(state: State, filled: usize) -> Played
 {
     Played {
         number: 0,
-        filled: filled,
+        filled,
         records: 0,
         bytes: 0,
-        state: state,
+        state,
         ended: false,
-        unread: false,
-        unwritten: false,
-        error: None,
+        trouble: None,
     }
 }
 
@@ -47,24 +48,8 @@ fn keep(buf: &mut [u8], from: usize, to: usize) -> usize
     requires { (from ≤ to) × (to ≤ length buf.old) }
     ensures { (result ≡ to - from) × (take result buf.new ≡ take result (drop from buf.old)) }
 {
-    let count = to - from;
-    for i in 0..count {
-        buf[i] = buf[from + i];
-    }
-    count
-}
-
-// Reads on, unless the run is over.
-fn read_on<S: std::io::Read>(is_over: bool, trace: &mut S, buf: &mut [u8]) -> Read
-    ensures { IsPrefixLen result.count buf.new }
-{
-    if is_over {
-        return Read {
-            count: 0,
-            error: None,
-        };
-    }
-    files::read_up(trace, buf)
+    buf.copy_within(from..to, 0);
+    to - from
 }
 
 // Runs what is in the buffer, writes the answers, and reads on. Limit and answer room are as many as there are bytes. The counts agree with
@@ -86,41 +71,41 @@ fn play_piece<S: std::io::Read, W: Write>(
     ensures { (Playable device (world_of result.state cells.new identification.new latch.new counts.new))
         × (result.filled ≤ length buf.new) × (result.number ≢ 15) }
 {
-    let filled = p.filled;
-    let state = p.state;
     let ran = m95::run(
         device,
-        state,
+        p.state,
         cells,
         identification,
         latch,
         counts,
-        &buf[..filled],
+        &buf[..p.filled],
         answers,
-        filled,
+        p.filled,
     );
-    let number = ran.number;
-    let done = ran.done;
-    let after = ran.state;
-    let unwritten = output.write_all(&answers[..done]).err();
-    let is_written = unwritten.is_none();
-    let left = keep(buf, ran.taken, filled);
-    let is_over = (number != 0) & (number != 6) | !is_written;
-    let read = read_on(is_over, trace, &mut buf[left..]);
-    Played {
-        number: number,
-        filled: left + read.count,
-        records: std::num::wrapping_add_u64(p.records, done as u64),
+    let unwritten = output.write_all(&answers[..ran.done]).err();
+    let left = keep(buf, ran.taken, p.filled);
+    let after = Played {
+        number: ran.number,
+        filled: left,
+        records: std::num::wrapping_add_u64(p.records, ran.done as u64),
         bytes: std::num::wrapping_add_u64(p.bytes, ran.taken as u64),
-        state: after,
-        ended: is_over | (read.count == 0) | read.error.is_some(),
-        unread: read.error.is_some(),
-        unwritten: !is_written,
-        error: unwritten.or(read.error),
+        state: ran.state,
+        ended: true,
+        trouble: unwritten.map(Trouble::Unwritten),
+    };
+    if after.trouble.is_some() || !matches!(ran.number, 0 | 6) {
+        return after;
+    }
+    let read = files::read_up(trace, &mut buf[left..]);
+    Played {
+        filled: left + read.count,
+        ended: (read.count == 0) | read.error.is_some(),
+        trouble: read.error.map(Trouble::Unread),
+        ..after
     }
 }
 
-// Runs piece after piece to the end. The turns are counted down from a number that no run uses up.
+// Runs piece after piece to the end. No run uses up the turns.
 pub fn play_all<S: std::io::Read, W: Write>(
     device: u8,
     start: Played,
@@ -139,8 +124,10 @@ pub fn play_all<S: std::io::Read, W: Write>(
         × (result.number ≢ 15) }
 {
     let mut p = start;
-    let mut turns = u64::MAX;
-    while (0 < turns) & !p.ended {
+    for _ in 0..u64::MAX {
+        if p.ended {
+            break;
+        }
         p = play_piece(
             device,
             p,
@@ -153,7 +140,6 @@ pub fn play_all<S: std::io::Read, W: Write>(
             trace,
             output,
         );
-        turns -= 1;
     }
     p
 }

@@ -10,6 +10,7 @@ use rules::Blank;
 
 // A page's number, or that there is none, behind the word that stands in a lent text already: six bytes, and then twenty digits and the line's
 // end at most.
+#[tactic(auto, using(crate::proofs::Line::parts))]
 fn put_page(blank: Blank, out: &mut [u8], at: usize) -> usize
     requires { (at ≡ 6) × (length out.old ≡ 32) }
     ensures { Put out.old at (page_text blank) out.new result }
@@ -32,7 +33,6 @@ pub fn put_room(device: u8, cells: &[u8], counts: &mut [u16], out: &mut [u8]) ->
 {
     m95::count_pages(device, cells, counts);
     let found = m95::first_blank(device, counts);
-    let blank = found.blank;
     let named = text::put(b"blank ", out, 0);
-    put_page(blank, out, named)
+    put_page(found.blank, out, named)
 }

@@ -5,6 +5,7 @@ ghost use Rattle.io.specs.Counts.{IsPrefixLen};
 ghost use Rattle.player.specs.Summary.{summary};
 
 // The line, at the start of a lent text, and how long it is.
+#[tactic(auto, using(crate::proofs::Line::parts))]
 pub fn put_summary(number: usize, status: usize, records: u64, bytes: u64, out: &mut [u8]) -> usize
     requires { (status < 256) × (length out.old ≡ 128) }
     ensures prefix_len { IsPrefixLen result out.new }

@@ -1,45 +1,40 @@
 -- `player::pieces::play_piece` meets its contract.
 use Rattle.std.proofs.Common.{◌-◌, ◌≤◌, length, sym, arith, length-take-le}
-use Rattle.player.proofs.Playing.{answered, piece-done, piece-taken, piece-played, piece-counted, left-fits}
+use Rattle.player.proofs.Playing.{piece, left-fits}
 use Rattle.player.proofs.pieces.play_piece.Goals as goal
-
-pub slice_bounds-run-end-2 : goal.slice_bounds-run-end-2
-slice_bounds-run-end-2 g c =
-    sym (length-take-le c.args.p.filled c.args.buf.now c.requires.filled_in_bounds.0)
 
 pub slice_bounds-write_all-end : goal.slice_bounds-write_all-end
 slice_bounds-write_all-end g c =
-    let room = answered c.args.buf.now c.args.answers.now c.args.p.filled c.requires.filled_in_bounds.0 c.requires.filled_in_bounds.1 in
-    piece-done c.args.device _ _ _ c.args.p.filled _ c.requires.playable.taken room c.run-ran.ensures
+    let sized = c.requires.filled_in_bounds in
+    (piece c.args.buf.now c.args.answers.now c.requires.playable sized.0 sized.1 c.run-ran.ensures).done
 
 pub slice_bounds-write_all-end-2 : goal.slice_bounds-write_all-end-2
 slice_bounds-write_all-end-2 g c =
-    let room = answered c.args.buf.now c.args.answers.now c.args.p.filled c.requires.filled_in_bounds.0 c.requires.filled_in_bounds.1 in
-    sym (length-take-le _ _ (piece-done c.args.device _ _ _ c.args.p.filled _ c.requires.playable.taken room c.run-ran.ensures))
+    let sized = c.requires.filled_in_bounds in
+    let told = piece c.args.buf.now c.args.answers.now c.requires.playable sized.0 sized.1 c.run-ran.ensures in
+    sym (length-take-le _ _ told.done)
 
 pub keep-left-requires : goal.keep-left-requires
 keep-left-requires g c =
-    let room = answered c.args.buf.now c.args.answers.now c.args.p.filled c.requires.filled_in_bounds.0 c.requires.filled_in_bounds.1 in
-    let taken = piece-taken c.args.device _ _ _ c.args.p.filled _ c.requires.playable.taken room c.run-ran.ensures in
-    (omega (arith, taken, length-take-le c.args.p.filled c.args.buf.now c.requires.filled_in_bounds.0), c.requires.filled_in_bounds.0)
+    let sized = c.requires.filled_in_bounds in
+    let told = piece c.args.buf.now c.args.answers.now c.requires.playable sized.0 sized.1 c.run-ran.ensures in
+    (told.taken, sized.0)
 
-pub slice_bounds-read_on-count : goal.slice_bounds-read_on-count
-slice_bounds-read_on-count g c =
-    omega (arith, c.keep-left.ensures.0, c.requires.filled_in_bounds.0, c.buf-1.given)
-
-pub slice_bounds-read_on-start : goal.slice_bounds-read_on-start
-slice_bounds-read_on-start g c =
-    omega (arith, c.keep-left.ensures.0, c.requires.filled_in_bounds.0, c.buf-1.given)
+pub returns-then-is_some : goal.returns-then-is_some
+returns-then-is_some g c =
+    let sized = c.requires.filled_in_bounds in
+    let told = piece c.args.buf.now c.args.answers.now c.requires.playable sized.0 sized.1 c.run-ran.ensures in
+    (told.played, omega (arith, c.keep-left.ensures.0, sized.0), told.counted)
 
 pub returns : goal.returns
 returns g c =
-    let room = answered c.args.buf.now c.args.answers.now c.args.p.filled c.requires.filled_in_bounds.0 c.requires.filled_in_bounds.1 in
+    let sized = c.requires.filled_in_bounds in
+    let told = piece c.args.buf.now c.args.answers.now c.requires.playable sized.0 sized.1 c.run-ran.ensures in
     let left = c.keep-left.result in
-    let old = c.keep-left.new.buf in
-    let part = c.read_on-read.new.buf in
-    let whole = c.buf-2-1.given.1 in
-    let inside : left ≤ length old = omega (arith, c.keep-left.ensures.0, c.requires.filled_in_bounds.0, c.buf-1.given) in (
-      piece-played c.args.device _ _ _ c.args.p.filled _ c.requires.playable.taken room c.run-ran.ensures c.requires.playable.agrees,
-      omega (arith, whole, left-fits old part left (length old - left) c.read_on-read.result.count inside c.read_on-read.ensures.0 whole),
-      piece-counted c.args.device _ _ _ c.args.p.filled _ c.requires.playable.taken room c.run-ran.ensures c.requires.playable.agrees,
+    let kept = c.keep-left.new.buf in
+    let part = c.read_up-read.new.buf in
+    let inside : left ≤ length kept = omega (arith, c.keep-left.ensures.0, sized.0) in (
+      told.played,
+      omega (arith, left-fits kept part left (length kept - left) c.read_up-read.result.count inside c.read_up-read.ensures.0),
+      told.counted,
     )
