@@ -22,16 +22,11 @@ pub fn replace<R: Files, E: Print>(
     new: &[u8],
     chip: &[u8],
 ) -> bool {
-    if played.unread | played.unwritten {
+    if played.trouble.is_some() || is_untouched(played) {
         let _ = files::remove(rt, new);
-        return false;
+        return played.trouble.is_none();
     }
-    if is_untouched(played) {
-        let _ = files::remove(rt, new);
-        return true;
-    }
-    let state = played.state;
-    let stored = m95::stored(state);
+    let stored = m95::stored(played.state);
     let mut open = fresh;
     if let Err(error) = contents::store(&mut open, cells, identification, stored) {
         fail(

@@ -4,7 +4,7 @@ ghost use Rattle.std.specs.Prelude.{true, ◌≡◌, length};
 ghost use Rattle.rules.specs.Device.{is_device, row_of, page_count};
 ghost use Rattle.rules.specs.Call.{count_outcome};
 
-use crate::say::{complain, is_faulty, is_unstorable};
+use crate::say::{complain, is_unstorable, tell_fault};
 use player::contents;
 use std::rt::Files;
 
@@ -34,12 +34,14 @@ fn ask_lent<R: Files + Print, E: Print>(
     requires cells_len { (length cells.old ≡ (row_of device).cells) × (length identification.old ≡ (row_of device).identification) }
 {
     let row = tables::row_of(device);
-    let said = contents::load_existing(rt, row, chip, cells, identification);
-    let fault = said.fault;
-    if is_faulty(errors, fault, chip) {
-        return;
-    }
-    let loaded = m95::load(device, said.stored);
+    let stored = match contents::load(rt, row, chip, None, cells, identification) {
+        Ok(stored) => stored,
+        Err(fault) => {
+            tell_fault(errors, fault, chip);
+            return;
+        }
+    };
+    let loaded = m95::load(device, stored);
     if is_unstorable(errors, loaded.number) {
         return;
     }
@@ -47,6 +49,7 @@ fn ask_lent<R: Files + Print, E: Print>(
 }
 
 // Prints it for a device, in buffers of which as much is lent as the device has cells and pages.
+#[tactic(auto, using(rules::proofs::Widths::room))]
 pub fn ask_device<R: Files + Print, E: Print>(rt: &R, errors: &E, device: u8, chip: &[u8])
     requires { is_device device ≡ true }
 {
@@ -54,16 +57,13 @@ pub fn ask_device<R: Files + Print, E: Print>(rt: &R, errors: &E, device: u8, ch
     let mut identification = [0u8; 256];
     let mut counts = [0u16; 1024];
     let row = tables::row_of(device);
-    let last = row.cells;
-    let identification_last = row.identification;
-    let pages = tables::page_count(row);
     ask_lent(
         rt,
         errors,
         device,
-        &mut cells[..last],
-        &mut identification[..identification_last],
-        &mut counts[..pages],
+        &mut cells[..row.cells],
+        &mut identification[..row.identification],
+        &mut counts[..tables::page_count(row)],
         chip,
     );
 }

@@ -1,6 +1,6 @@
 // A run of play on a device, by the names of its files: CHIP loaded, TRACE run into ANSWERS, and CHIP replaced by way of NEW.
 
-ghost use Rattle.std.specs.Prelude.{◌≤◌, ◌≡◌, length, true};
+ghost use Rattle.std.specs.Prelude.{◌≤◌, ◌≡◌, length, true, IfSome};
 ghost use Rattle.io.specs.Counts.{IsPrefixLen};
 ghost use Rattle.rules.specs.World.{world_of};
 ghost use Rattle.rules.specs.Device.{is_device};
@@ -8,8 +8,8 @@ ghost use Rattle.rules.specs.Call.{lent_refusal};
 ghost use Rattle.player.specs.Playing.{Playable};
 
 use crate::replacing::replace;
-use crate::say::{fail, is_faulty, is_unstorable, tell, tell_kind_16};
-use player::pieces::Played;
+use crate::say::{fail, is_unstorable, tell, tell_fault, tell_kind_16};
+use player::pieces::{Played, Trouble};
 use player::{contents, pieces};
 use rules::State;
 use std::fs::OpenFile;
@@ -19,44 +19,39 @@ use std::rt::Files;
 // Closes ANSWERS, and gives what is wrong with it then. std closes without a word; so a file is first brought to its medium, which tells
 // all that the closing would.
 fn close<F: OpenFile + Drop>(output: F) -> Option<Error> {
-    let is_file = match output.metadata() {
-        Ok(found) => found.is_file(),
-        Err(_) => false,
-    };
-    if is_file {
-        return output.sync_all().err();
+    match output.metadata() {
+        Ok(found) if found.is_file() => output.sync_all().err(),
+        _ => None,
     }
-    None
 }
 
-// Tells of trouble after a run, closes ANSWERS where the trace was read to its end, and answers whether ANSWERS is not whole.
-fn is_unwritten<F: OpenFile + Drop, E: Print>(
+// Closes ANSWERS where the trace was read to its end, and tells and gives what went wrong, then or in the run.
+fn finish<F: OpenFile + Drop, E: Print>(
     errors: &E,
-    ran: Played,
+    trouble: Option<Trouble>,
     output: F,
     trace: &[u8],
     answers: &[u8],
-) -> bool {
-    if ran.unread {
+) -> Option<Trouble> {
+    if let Some(Trouble::Unread(error)) = trouble {
         fail(
             errors,
             b"play: cannot read to its end the trace ",
             trace,
-            ran.error,
+            Some(error),
         );
-        return ran.unwritten;
+        return trouble;
     }
-    let unclosed = close(output);
-    if ran.unwritten | unclosed.is_some() {
+    let trouble = close(output).map(Trouble::Unwritten).or(trouble);
+    if let Some(Trouble::Unwritten(error)) = trouble {
         fail(
             errors,
             b"play: cannot write the answers ",
             answers,
-            unclosed.or(ran.error),
+            Some(error),
         );
-        return true;
     }
-    false
+    trouble
 }
 
 // Runs the trace into ANSWERS, from what was read of it. Trouble is told, and marked in what is handed back.
@@ -79,7 +74,6 @@ fn play_into<R: Files, E: Print>(
     ensures { Playable device (world_of result.state cells.new identification.new latch.new counts.new) }
 {
     let mut room = io::large_buffer();
-    let mut played = start;
     let mut output = match files::open_overwrite(rt, answers) {
         Ok(output) => output,
         Err(error) => {
@@ -89,11 +83,13 @@ fn play_into<R: Files, E: Print>(
                 answers,
                 Some(error),
             );
-            played.unwritten = true;
-            return played;
+            return Played {
+                trouble: Some(Trouble::Unwritten(error)),
+                ..start
+            };
         }
     };
-    played = pieces::play_all(
+    let played = pieces::play_all(
         device,
         start,
         cells,
@@ -105,56 +101,29 @@ fn play_into<R: Files, E: Print>(
         input,
         &mut output,
     );
-    let is_cut = is_unwritten(errors, played, output, trace, answers);
-    played.unwritten = is_cut;
-    played
+    Played {
+        trouble: finish(errors, played.trouble, output, trace, answers),
+        ..played
+    }
 }
 
-// A trace, and how much of it is in the buffer. There is no file where it cannot be read.
-#[derive(Drop)]
-struct Begun<F> {
-    pub input: Option<F>,
-    pub count: usize,
-}
-
-// Reads as much of TRACE as the buffer holds. Trouble is told.
-fn begin_open<F: std::io::Read + Drop, E: Print>(
+// Opens TRACE, reads as much of it as the buffer holds, and gives it and how many bytes that are. Trouble is told.
+fn begin<R: Files, E: Print>(
+    rt: &R,
     errors: &E,
-    file: F,
     trace: &[u8],
     buf: &mut [u8],
-) -> Begun<F>
-    ensures { IsPrefixLen result.count buf.new }
+) -> Option<(R::File, usize)>
+    ensures { IfSome result (λ begun. IsPrefixLen begun.1 buf.new) }
 {
-    let mut input = file;
+    let tell = |error| fail(errors, b"play: cannot read the trace ", trace, Some(error));
+    let mut input = files::open_read(rt, trace).map_err(tell).ok()?;
     let read = files::read_up(&mut input, buf);
-    if read.error.is_some() {
-        fail(errors, b"play: cannot read the trace ", trace, read.error);
-        return Begun {
-            input: None,
-            count: 0,
-        };
+    if let Some(error) = read.error {
+        tell(error);
+        return None;
     }
-    Begun {
-        input: Some(input),
-        count: read.count,
-    }
-}
-
-// Opens TRACE, and reads as much of it as the buffer holds. Trouble is told.
-fn begin<R: Files, E: Print>(rt: &R, errors: &E, trace: &[u8], buf: &mut [u8]) -> Begun<R::File>
-    ensures { IsPrefixLen result.count buf.new }
-{
-    match files::open_read(rt, trace) {
-        Ok(file) => begin_open(errors, file, trace, buf),
-        Err(error) => {
-            fail(errors, b"play: cannot read the trace ", trace, Some(error));
-            Begun {
-                input: None,
-                count: 0,
-            }
-        }
-    }
+    Some((input, read.count))
 }
 
 // Plays the trace on a chip that is loaded. TRACE is read, and NEW is open, before ANSWERS is touched.
@@ -175,9 +144,7 @@ fn play_loaded<R: Files + Print, E: Print>(
     requires { Playable device (world_of state cells.old identification.old latch.old counts.old) }
 {
     let mut buf = io::large_buffer();
-    let begun = begin(rt, errors, trace, &mut buf);
-    let count = begun.count;
-    let Some(mut input) = begun.input else {
+    let Some((mut input, count)) = begin(rt, errors, trace, &mut buf) else {
         return;
     };
     let fresh = match files::open_overwrite(rt, new) {
@@ -232,12 +199,15 @@ fn play_lent<R: Files + Print, E: Print>(
 {
     m95::prepare(device, cells, identification, latch, counts);
     let row = tables::row_of(device);
-    let said = contents::load(rt, row, chip, cells, identification);
-    let fault = said.fault;
-    if is_faulty(errors, fault, chip) {
-        return;
-    }
-    let loaded = m95::load(device, said.stored);
+    let prepared = Some(contents::PREPARED);
+    let stored = match contents::load(rt, row, chip, prepared, cells, identification) {
+        Ok(stored) => stored,
+        Err(fault) => {
+            tell_fault(errors, fault, chip);
+            return;
+        }
+    };
+    let loaded = m95::load(device, stored);
     if is_unstorable(errors, loaded.number) {
         return;
     }
@@ -259,6 +229,7 @@ fn play_lent<R: Files + Print, E: Print>(
 }
 
 // Plays the trace on a device, in as much of the room as it has cells and pages.
+#[tactic(auto, using(rules::proofs::Widths::room))]
 pub fn play_device<R: Files + Print, E: Print>(
     rt: &R,
     errors: &E,
@@ -275,19 +246,14 @@ pub fn play_device<R: Files + Print, E: Print>(
     let mut latch = [0u8; 512];
     let mut counts = [0u16; 1024];
     let row = tables::row_of(device);
-    let room = row.cells;
-    let identification_room = row.identification;
-    let page = row.page;
-    let both = page + page;
-    let pages = tables::page_count(row);
     play_lent(
         rt,
         errors,
         device,
-        &mut cells[..room],
-        &mut identification[..identification_room],
-        &mut latch[..both],
-        &mut counts[..pages],
+        &mut cells[..row.cells],
+        &mut identification[..row.identification],
+        &mut latch[..row.page + row.page],
+        &mut counts[..tables::page_count(row)],
         chip,
         trace,
         answers,

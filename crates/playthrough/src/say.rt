@@ -20,12 +20,9 @@ pub fn fail<E: Print>(errors: &E, what: &[u8], path: &[u8], error: Option<Error>
     files::fail(errors, path, error);
 }
 
-// A line for what is wrong with a chip's file, and whether there was one.
-pub fn is_faulty<E: Print>(errors: &E, fault: Fault, path: &[u8]) -> bool {
+// A line for what is wrong with a chip's file.
+pub fn tell_fault<E: Print>(errors: &E, fault: Fault, path: &[u8]) {
     match fault {
-        Fault::None => {
-            return false;
-        }
         Fault::Unread(error) => {
             fail(errors, b"play: cannot read the chip ", path, Some(error));
         }
@@ -44,7 +41,6 @@ pub fn is_faulty<E: Print>(errors: &E, fault: Fault, path: &[u8]) -> bool {
             );
         }
     }
-    true
 }
 
 // A line for what a chip's file has stored and its device cannot, and whether there was one.
@@ -63,10 +59,7 @@ pub fn is_unstorable<E: Print>(errors: &E, number: usize) -> bool
 
 // A line where a trace begins with a record of kind 16, which names the device for the bench and belongs to no trace.
 pub fn tell_kind_16<E: Print>(errors: &E, trace: &[u8]) {
-    if trace.len() < 4 {
-        return;
-    }
-    if two_at(trace, 2) == 16 {
+    if 4 <= trace.len() && two_at(trace, 2) == 16 {
         complain(
             errors,
             b"play: TRACE begins with the bench's first record, of kind 16; play has the word DEVICE instead: leave that record out\n",

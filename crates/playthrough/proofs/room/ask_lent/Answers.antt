@@ -4,8 +4,8 @@ use Rattle.m95.proofs.Calling.{row-widths}
 use Rattle.playthrough.proofs.Loading.{counting-taken}
 use Rattle.playthrough.proofs.room.ask_lent.Goals as goal
 
-pub load_existing-said-requires : goal.load_existing-said-requires
-load_existing-said-requires g c =
+pub load-requires : goal.load-requires
+load-requires g c =
     let row = c.row_of-row in
     (row-widths c.args.device row.result row.ensures, rw row.ensures c.requires.cells_len.0, rw row.ensures c.requires.cells_len.1)
 

@@ -14,7 +14,7 @@ play_into-played-requires g c =
     let playable : State → Type 0 = λ (s : State). Playable given.device (world_of s given.cells.now given.identification.now given.latch.now given.counts.now) in
     record {
       playable = (subst playable (sym begun.ensures.0) c.requires, begun.ensures.2);
-      filled_in_bounds = (omega (arith, begun.ensures.1, c.begin-begun.ensures.0), omega (arith, c.buf-2-1.given, c.large_buffer-buf.ensures));
+      filled_in_bounds = (omega (arith, begun.ensures.1, c.in-Some.ensures.0), omega (arith, c.buf-2-1.given, c.large_buffer-buf.ensures));
     }
 
 pub tell-requires : goal.tell-requires
