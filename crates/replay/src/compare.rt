@@ -1,74 +1,43 @@
 // Running a stored vector through the library, and comparing all that is left of it with what the vector says.
 
-ghost use Rattle.std.specs.Prelude.{◌≡◌, ◌+◌, ◌*◌, ◌≤◌, length};
+ghost use Rattle.std.specs.Prelude.{◌≡◌, ◌≤◌, length};
 
 use crate::vector;
-use crate::vector::Header;
+use crate::vector::{Header, Vector};
+use std::ops::Add;
 use traces::records::Ran;
 
 // How many vectors were run, and how many differ.
-#[derive(Clone, Copy)]
+#[derive(Clone, Copy, Default)]
 pub struct Tally {
     pub run: u64,
     pub different: u64,
 }
 
-pub fn none() -> Tally {
-    Tally {
-        run: 0,
-        different: 0,
-    }
-}
+impl Add for Tally {
+    type Output = Tally;
 
-// What stands for a file that cannot be read.
-pub fn unread() -> Tally {
-    Tally {
-        run: 0,
-        different: 1,
-    }
-}
-
-// One vector.
-fn one(is_good: bool) -> Tally {
-    Tally {
-        run: 1,
-        different: !is_good as u64,
-    }
-}
-
-pub fn add(a: Tally, b: Tally) -> Tally {
-    Tally {
-        run: std::num::wrapping_add_u64(a.run, b.run),
-        different: std::num::wrapping_add_u64(a.different, b.different),
-    }
-}
-
-// Whether the bytes from a place on are the first of some others.
-fn is_same(bytes: &[u8], at: usize, count: usize, others: &[u8]) -> bool
-    requires { at + count ≤ length bytes.now }
-{
-    if others.len() < count {
-        return false;
-    }
-    for i in 0..count {
-        if bytes[at + i] != others[i] {
-            return false;
+    fn add(self, other: Tally) -> Tally {
+        Tally {
+            run: self.run.wrapping_add(other.run),
+            different: self.different.wrapping_add(other.different),
         }
     }
-    true
 }
+
+// What stands for a file, or the end of one, that cannot be read.
+pub const UNREAD: Tally = Tally {
+    run: 0,
+    different: 1,
+};
 
 // Whether each byte that a vector names stands in a memory. It is set back to what a prepared device has there.
-fn take_back(bytes: &[u8], at: usize, count: usize, memory: &mut [u8], prepared: &[u8]) -> bool
-    requires { (at + count * 5 ≤ length bytes.now) × (length memory.old ≡ length prepared.now) }
+fn take_back(named: &[u8], memory: &mut [u8], prepared: &[u8]) -> bool
+    requires { length memory.old ≡ length prepared.now }
 {
-    for i in 0..count {
-        let place = at + i * 5;
-        let address = vector::four_at(bytes, place);
-        if memory.len() <= address {
-            return false;
-        }
-        if memory[address] != bytes[place + 4] {
+    for [a, b, c, d, byte] in named.as_chunks::<5>().0 {
+        let address = vector::number([*a, *b, *c, *d]);
+        if memory.len() <= address || memory[address] != *byte {
             return false;
         }
         memory[address] = prepared[address];
@@ -77,38 +46,30 @@ fn take_back(bytes: &[u8], at: usize, count: usize, memory: &mut [u8], prepared:
 }
 
 // Whether a memory is a prepared device's but for the bytes that a vector names, which stand in it.
-fn is_left(bytes: &[u8], at: usize, count: usize, memory: &mut [u8], prepared: &[u8]) -> bool
-    requires { (at + count * 5 ≤ length bytes.now) × (length memory.old ≡ length prepared.now) }
+fn is_left(named: &[u8], memory: &mut [u8], prepared: &[u8]) -> bool
+    requires { length memory.old ≡ length prepared.now }
 {
-    let are_named = take_back(bytes, at, count, memory, prepared);
-    are_named & is_same(memory, 0, memory.len(), prepared)
+    take_back(named, memory, prepared) && memory[..] == prepared[..]
 }
 
 // Whether a run ended as a vector says: its number and counts, the status and the lock.
 fn is_ended(ran: Ran, h: Header) -> bool {
-    let after = ran.state;
-    let status = m95::status_byte(after);
+    let status = m95::status_byte(ran.state);
     let is_counted = (ran.number == h.number) & (ran.done == h.done) & (ran.taken == h.taken);
-    is_counted & (status == h.status) & (after.registers.locked == h.locked)
+    is_counted & (status == h.status) & (ran.state.registers.locked == h.locked)
 }
 
-// Runs the trace of the vector at a place on a prepared device.
+// Runs a vector's trace on a prepared device.
 fn run_trace(
-    bytes: &[u8],
-    at: usize,
-    h: Header,
+    vector: Vector<'_>,
     cells: &mut [u8],
     identification: &mut [u8],
     latch: &mut [u8],
     counts: &mut [u16],
     answers: &mut [u8],
-) -> Ran
-    requires { (at + 24 + h.trace ≤ length bytes.now) × (length bytes.now ≤ 131072) }
-{
-    let device = h.device;
+) -> Ran {
+    let device = vector.header.device;
     let ready = m95::prepare(device, cells, identification, latch, counts);
-    let start = at + 24;
-    let end = start + h.trace;
     m95::run(
         device,
         ready.state,
@@ -116,17 +77,15 @@ fn run_trace(
         identification,
         latch,
         counts,
-        &bytes[start..end],
+        vector.trace,
         answers,
-        h.trace,
+        vector.trace.len(),
     )
 }
 
 // Whether a vector's run ends as it says, with its answers and its contents.
 fn is_good(
-    bytes: &[u8],
-    at: usize,
-    h: Header,
+    vector: Vector<'_>,
     cells: &mut [u8],
     identification: &mut [u8],
     latch: &mut [u8],
@@ -135,23 +94,20 @@ fn is_good(
     factory: &mut [u8],
     answers: &mut [u8],
 ) -> bool
-    requires page_in_bounds { (at + 24 + h.trace + h.done + h.cells * 5 + h.page * 5 ≤ length bytes.now) × (length bytes.now ≤ 131072) }
-    requires cells_len { (length cells.old ≡ length blank.old) × (length identification.old ≡ length factory.old) }
+    requires { (length cells.old ≡ length blank.old) × (length identification.old ≡ length factory.old) }
 {
-    m95::prepare(h.device, blank, factory, latch, counts);
-    let ran = run_trace(bytes, at, h, cells, identification, latch, counts, answers);
-    let end = at + 24 + h.trace;
-    let named = end + h.done;
-    let paged = named + h.cells * 5;
-    let is_answered = is_same(bytes, end, h.done, answers);
-    let are_cells = is_left(bytes, named, h.cells, cells, blank);
-    let is_page = is_left(bytes, paged, h.page, identification, factory);
-    is_ended(ran, h) & is_answered & are_cells & is_page
+    m95::prepare(vector.header.device, blank, factory, latch, counts);
+    let ran = run_trace(vector, cells, identification, latch, counts, answers);
+    is_ended(ran, vector.header)
+        && answers.starts_with(vector.answers)
+        && is_left(vector.cells, cells, blank)
+        && is_left(vector.page, identification, factory)
 }
 
-// Whether the vector at a place is good, in as much of the room as its device has cells and pages.
-fn is_good_here(bytes: &[u8], at: usize, h: Header) -> bool
-    requires { (at + 24 + h.trace + h.done + h.cells * 5 + h.page * 5 ≤ length bytes.now) × (length bytes.now ≤ 131072) }
+// Whether a vector is good, in as much of the room as its device has cells and pages.
+#[tactic(auto, using(rules::proofs::Widths::room))]
+fn is_good_here(vector: Vector<'_>) -> bool
+    requires { length vector.trace.now ≤ 131072 }
 {
     let mut cells = [0u8; 262144];
     let mut identification = [0u8; 256];
@@ -160,24 +116,16 @@ fn is_good_here(bytes: &[u8], at: usize, h: Header) -> bool
     let mut blank = [0u8; 262144];
     let mut factory = [0u8; 256];
     let mut answers = [0u8; 131072];
-    let row = tables::row_of(h.device);
-    let room = row.cells;
-    let identification_room = row.identification;
-    let page = row.page;
-    let both = page + page;
-    let pages = tables::page_count(row);
-    let length = h.trace;
+    let row = tables::row_of(vector.header.device);
     is_good(
-        bytes,
-        at,
-        h,
-        &mut cells[..room],
-        &mut identification[..identification_room],
-        &mut latch[..both],
-        &mut counts[..pages],
-        &mut blank[..room],
-        &mut factory[..identification_room],
-        &mut answers[..length],
+        vector,
+        &mut cells[..row.cells],
+        &mut identification[..row.identification],
+        &mut latch[..row.page + row.page],
+        &mut counts[..tables::page_count(row)],
+        &mut blank[..row.cells],
+        &mut factory[..row.identification],
+        &mut answers[..vector.trace.len()],
     )
 }
 
@@ -185,20 +133,15 @@ fn is_good_here(bytes: &[u8], at: usize, h: Header) -> bool
 pub fn run_all(bytes: &[u8]) -> Tally
     requires { length bytes.now ≤ 131072 }
 {
-    let mut tally = none();
-    let mut at = 0;
-    while at < bytes.len() {
-        let left = bytes.len() - at;
-        if left < 24 {
-            return add(tally, unread());
-        }
-        let h = vector::header_at(bytes, at);
-        let size = vector::size_of(h);
-        if left < size {
-            return add(tally, unread());
-        }
-        tally = add(tally, one(is_good_here(bytes, at, h)));
-        at += size;
+    let mut tally = Tally::default();
+    let mut rest = bytes;
+    while !rest.is_empty() {
+        let Some((vector, behind)) = vector::split(rest) else {
+            return tally + UNREAD;
+        };
+        let different = u64::from(!is_good_here(vector));
+        tally = tally + Tally { run: 1, different };
+        rest = behind;
     }
     tally
 }

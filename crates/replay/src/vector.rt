@@ -1,7 +1,7 @@
 // A stored vector: a header of 24 bytes, the trace, an answer byte for each record done, and the bytes that differ from a prepared
 // device's, first of the cells and then of the identification page, each with its address. All numbers are little-endian.
 
-ghost use Rattle.std.specs.Prelude.{◌≡◌, ◌+◌, ◌<◌, ◌≤◌, length};
+ghost use Rattle.std.specs.Prelude.{◌≡◌, ◌+◌, ◌<◌, IfSome, length};
 ghost use Rattle.replay.specs.Vector.{Short, size_of};
 
 // What a header says: the device, how the run ends, and how long the parts are.
@@ -18,43 +18,56 @@ pub struct Header {
     pub page: usize,
 }
 
-// A byte as a number.
-fn wide(byte: u8) -> usize {
-    byte as usize
+// A vector in its parts.
+#[derive(Clone, Copy)]
+pub struct Vector<'a> {
+    pub header: Header,
+    pub trace: &'a [u8],
+    pub answers: &'a [u8],
+    pub cells: &'a [u8],
+    pub page: &'a [u8],
 }
 
-// Four bytes at a place, the least significant first.
-pub fn four_at(bytes: &[u8], at: usize) -> usize
-    requires { at + 4 ≤ length bytes.now }
+// Four bytes as a number, the least significant first.
+pub fn number(bytes: [u8; 4]) -> usize
     ensures { result < 4294967296 }
 {
-    let low = traces::trace::two_at(bytes, at);
-    let high = traces::trace::two_at(bytes, at + 2);
-    low % 65536 + high % 65536 * 65536
+    u32::from_le_bytes(bytes) as usize
 }
 
-// The header at a place.
-pub fn header_at(bytes: &[u8], at: usize) -> Header
-    requires { at + 24 ≤ length bytes.now }
+// The header in its bytes.
+fn header_of(bytes: &[u8; 24]) -> Header
     ensures { Short result }
 {
     Header {
-        device: bytes[at],
-        number: wide(bytes[at + 1]),
-        status: wide(bytes[at + 2]),
-        locked: bytes[at + 3] == 1,
-        trace: four_at(bytes, at + 4),
-        done: four_at(bytes, at + 8),
-        taken: four_at(bytes, at + 12),
-        cells: four_at(bytes, at + 16),
-        page: four_at(bytes, at + 20),
+        device: bytes[0],
+        number: usize::from(bytes[1]),
+        status: usize::from(bytes[2]),
+        locked: bytes[3] == 1,
+        trace: number([bytes[4], bytes[5], bytes[6], bytes[7]]),
+        done: number([bytes[8], bytes[9], bytes[10], bytes[11]]),
+        taken: number([bytes[12], bytes[13], bytes[14], bytes[15]]),
+        cells: number([bytes[16], bytes[17], bytes[18], bytes[19]]),
+        page: number([bytes[20], bytes[21], bytes[22], bytes[23]]),
     }
 }
 
-// How many bytes a vector has in all.
-pub fn size_of(h: Header) -> usize
-    requires { Short h }
-    ensures { result ≡ size_of h }
+// The vector at the start of some bytes, and what is behind it, where they have a whole one.
+pub fn split(bytes: &[u8]) -> Option<(Vector<'_>, &[u8])>
+    ensures { IfSome result (λ found. (size_of found.0.header + length found.1.now ≡ length bytes.now) × (length found.0.trace.now ≡ found.0.header.trace)) }
 {
-    24 + h.trace + h.done + h.cells * 5 + h.page * 5
+    let (head, rest) = bytes.split_first_chunk::<24>()?;
+    let header = header_of(head);
+    let (trace, rest) = rest.split_at_checked(header.trace)?;
+    let (answers, rest) = rest.split_at_checked(header.done)?;
+    let (cells, rest) = rest.split_at_checked(header.cells * 5)?;
+    let (page, rest) = rest.split_at_checked(header.page * 5)?;
+    let vector = Vector {
+        header,
+        trace,
+        answers,
+        cells,
+        page,
+    };
+    Some((vector, rest))
 }

@@ -7,13 +7,27 @@ use replay::compare;
 use replay::compare::Tally;
 use std::rt::Files;
 
+// The profiles, by the names of their files.
+const PROFILES: [&[u8]; 10] = [
+    b"commands",
+    b"lengths",
+    b"protect",
+    b"glitch",
+    b"hold",
+    b"waits",
+    b"power",
+    b"noise",
+    b"mixed",
+    b"malformed",
+];
+
 // Prints a line: a name, how many vectors were run, and how many differ.
 fn tell<P: Print>(out: &P, name: &[u8], tally: Tally) {
     let _ = out.write_all(name);
     let _ = out.write_all(b": ");
-    let _ = out.print(tally.run as u64);
+    let _ = out.print(tally.run);
     let _ = out.write_all(b" vectors, ");
-    let _ = out.print(tally.different as u64);
+    let _ = out.print(tally.different);
     let _ = out.write_all(b" differences\n");
 }
 
@@ -24,29 +38,21 @@ fn profile<R: Files + Print, E: Print>(rt: &R, errors: &E, name: &[u8]) -> Tally
         Ok(file) => file,
         Err(error) => {
             files::fail(errors, name, Some(error));
-            return compare::unread();
+            return compare::UNREAD;
         }
     };
     let read = files::read_up(&mut file, &mut bytes);
     drop(file);
-    let count = read.count;
-    let tally = compare::run_all(&bytes[..count]);
+    let tally = compare::run_all(&bytes[..read.count]);
     tell(rt, name, tally);
     tally
 }
 
 fn main(rt: HostRuntime) {
     let errors = rt.stderr();
-    let mut total = compare::none();
-    total = compare::add(total, profile(&rt, &errors, b"commands"));
-    total = compare::add(total, profile(&rt, &errors, b"lengths"));
-    total = compare::add(total, profile(&rt, &errors, b"protect"));
-    total = compare::add(total, profile(&rt, &errors, b"glitch"));
-    total = compare::add(total, profile(&rt, &errors, b"hold"));
-    total = compare::add(total, profile(&rt, &errors, b"waits"));
-    total = compare::add(total, profile(&rt, &errors, b"power"));
-    total = compare::add(total, profile(&rt, &errors, b"noise"));
-    total = compare::add(total, profile(&rt, &errors, b"mixed"));
-    total = compare::add(total, profile(&rt, &errors, b"malformed"));
+    let mut total = Tally::default();
+    for name in PROFILES {
+        total = total + profile(&rt, &errors, name);
+    }
     tell(&rt, b"total", total);
 }

@@ -1,9 +1,9 @@
--- `replay::compare::run_all` meets its contract.
-use Rattle.std.proofs.Common.{◌-◌, ◌≤◌, length}
+-- `replay::compare::run_all` meets its contract: what is left of the file is never longer than it, and shorter by each vector.
+use Rattle.std.proofs.Common.{◌≤◌, length}
 use Rattle.replay.proofs.compare.run_all.Given as goal
 
-abbrev pub invariant-loop-at : goal.invariant-loop-at
-invariant-loop-at l = l.at ≤ length l.bytes
+abbrev pub invariant-loop-rest : goal.invariant-loop-rest
+invariant-loop-rest l = length l.rest ≤ length l.bytes
 
-abbrev pub decreases-loop-at : goal.decreases-loop-at
-decreases-loop-at l = length l.bytes - l.at
+abbrev pub decreases-loop-rest : goal.decreases-loop-rest
+decreases-loop-rest l = length l.rest
