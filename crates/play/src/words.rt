@@ -1,13 +1,15 @@
 // The words that play is called with.
 
-ghost use Rattle.std.specs.Prelude.{true, ◌≡◌, IfSome};
+ghost use Rattle.std.specs.Prelude.{true, ◌≡◌, ◌<◌, ◌≤◌, IfSome, length};
 ghost use Rattle.rules.specs.Device.{is_device};
 
 use std::env::FillError;
 use std::rt::Env;
 
 // A word, at the start of a buffer. There is none where it is missing or empty, or the buffer has no room for all of it.
-pub fn word_at<'a, R: Env>(rt: &R, i: usize, buf: &'a mut [u8]) -> Option<&'a [u8]> {
+pub fn word_at<'a, R: Env>(rt: &R, i: usize, buf: &'a mut [u8]) -> Option<&'a [u8]>
+    ensures { IfSome result (λ word. (0 < length word.now) × (length word.now ≤ length buf.old)) }
+{
     match rt.arg(i, buf) {
         Ok(0) | Err(_) => None,
         Ok(count) => Some(&buf[..count]),

@@ -87,8 +87,8 @@ fn play_piece<S: std::io::Read, W: Write>(
     let after = Played {
         number: ran.number,
         filled: left,
-        records: std::num::wrapping_add_u64(p.records, ran.done as u64),
-        bytes: std::num::wrapping_add_u64(p.bytes, ran.taken as u64),
+        records: p.records.wrapping_add(ran.done as u64),
+        bytes: p.bytes.wrapping_add(ran.taken as u64),
         state: ran.state,
         ended: true,
         trouble: unwritten.map(Trouble::Unwritten),
