@@ -1,82 +1,18 @@
 // Putting a state into bytes. specs/StateBytes.antt says which byte is what.
 
-ghost use Rattle.std.specs.Prelude.{◌≡◌, ◌<◌, length};
-ghost use Rattle.rules.specs.Trace.{answer_byte};
-ghost use Rattle.state_bytes.specs.StateBytes.{byte_of, instruction_number, kind_number, number_bytes, flag_bytes, other_bytes, bytes_of};
+ghost use Rattle.std.specs.Prelude.{◌≡◌, length};
+ghost use Rattle.state_bytes.specs.StateBytes.{number_bytes, flag_bytes, other_bytes, bytes_of};
 
-use rules::{Instruction, Kind, Level, Place, State};
+use rules::{Place, State};
 
-// Eight bits of a number, from one on.
-fn byte_of(number: usize, from: usize) -> u8
-    requires { from < 64 }
-    ensures { result ≡ byte_of number from }
-{
-    (number >> from & 0xFF) as u8
-}
-
-// The place of an instruction in the list.
-fn instruction_number(instruction: Instruction) -> u8
-    ensures { result ≡ instruction_number instruction }
-{
-    match instruction {
-        Instruction::Wren => 0,
-        Instruction::Wrdi => 1,
-        Instruction::Rdsr => 2,
-        Instruction::Wrsr => 3,
-        Instruction::Read => 4,
-        Instruction::Write => 5,
-        Instruction::Rdid => 6,
-        Instruction::Rdls => 7,
-        Instruction::Wrid => 8,
-        Instruction::Lid => 9,
-        Instruction::Unknown => 10,
-    }
-}
-
-// The place of a level in the list.
-fn level_number(level: Level) -> u8
-    ensures { result ≡ answer_byte level }
-{
-    match level {
-        Level::Low => 0,
-        Level::High => 1,
-        Level::Z => 2,
-    }
-}
-
-// The place of a cycle in the list.
-fn kind_number(kind: Kind) -> u8
-    ensures { result ≡ kind_number kind }
-{
-    match kind {
-        Kind::None => 0,
-        Kind::Array => 1,
-        Kind::Identification => 2,
-        Kind::Status => 3,
-        Kind::Lock => 4,
-    }
-}
-
-// Puts the three numbers.
+// Puts the three numbers, four bytes of each.
 fn put_numbers(room: &mut [u8], place: Place)
     requires { length room.old ≡ 12 }
     ensures { room.new ≡ number_bytes place }
 {
-    let numbers = [
-        byte_of(place.address, 0),
-        byte_of(place.address, 8),
-        byte_of(place.address, 16),
-        byte_of(place.address, 24),
-        byte_of(place.start, 0),
-        byte_of(place.start, 8),
-        byte_of(place.start, 16),
-        byte_of(place.start, 24),
-        byte_of(place.left, 0),
-        byte_of(place.left, 8),
-        byte_of(place.left, 16),
-        byte_of(place.left, 24),
-    ];
-    room.copy_from_slice(&numbers);
+    room[0..4].copy_from_slice(&place.address.to_le_bytes()[..4]);
+    room[4..8].copy_from_slice(&place.start.to_le_bytes()[..4]);
+    room[8..12].copy_from_slice(&place.left.to_le_bytes()[..4]);
 }
 
 // Puts the eleven flags.
@@ -105,16 +41,10 @@ fn put_others(room: &mut [u8], s: State)
     requires { length room.old ≡ 13 }
     ensures { room.new ≡ other_bytes s }
 {
-    let command = s.command;
-    let instruction = command.instruction;
-    let output = s.output;
-    let q = output.q;
-    let cycle = s.cycle;
-    let kind = cycle.kind;
     let others = [
-        instruction_number(instruction),
-        level_number(q),
-        kind_number(kind),
+        s.command.instruction as u8,
+        s.output.q as u8,
+        s.cycle.kind as u8,
         s.input.bits,
         s.input.value,
         s.input.bytes,
