@@ -2,9 +2,9 @@
 use Prim.Native.Nat.{ℕ, ◌+◌, ◌*◌, ◌/◌, ◌%◌, ◌^◌, ◌<◌}
 use mathlib.Core.Path.{◌≡◌, refl}
 use mathlib.Core.Bool.{Bool, true, false}
-use native.Mathlib.Nat.{mod-eq_of_lt}
 use native.Mathlib.Omega.{arith}
 use lib.Dec.{leb}
+use Rattle.std.proofs.lemmas.Nat.{from_le_bytes-to_le_bytes_4}
 use lib.ListN.{get_or}
 use Rattle.rules.specs.declared.Instruction.{Instruction}
 use Rattle.rules.specs.declared.Kind.{Kind}
@@ -44,60 +44,13 @@ kind-back Kind.Identification = (refl, refl)
 kind-back Kind.Status = (refl, refl)
 kind-back Kind.Lock = (refl, refl)
 
-split : (n : ℕ) → n % 256 + n / 256 * 256 ≡ n
-split n = omega arith
-
-joined : (n p q r a b c : ℕ) → a + p * 256 ≡ n → b + q * 256 ≡ p → c + r * 256 ≡ q → a + b * 256 + (c + r * 256) * 65_536 ≡ n
-joined n p q r a b c e f g = omega (arith, e, f, g)
-
 four-back : (n : ℕ) → n < 2 ^ 32 → byte_of n 0 + byte_of n 8 * 256 + (byte_of n 16 + byte_of n 24 * 256) * 65_536 ≡ n
-four-back n h =
-    let first : n / 2 ^ 0 ≡ n = omega arith in
-    let third : n / 2 ^ 16 ≡ n / 256 / 256 = omega arith in
-    let fourth : n / 2 ^ 24 ≡ n / 256 / 256 / 256 = omega arith in
-    let small : n / 256 / 256 / 256 % 256 ≡ n / 256 / 256 / 256 = mod-eq_of_lt (omega (arith, h)) in
-    rw (first, third, fourth, small)
-    (joined n (n / 256) (n / 256 / 256) (n / 256 / 256 / 256) (n % 256) (n / 256 % 256) (n / 256 / 256 % 256) (split n) (split (n / 256)) (split (n / 256 / 256)))
+four-back n h = omega (arith, from_le_bytes-to_le_bytes_4 n h)
 
 pub is_state_lem : (s : State) → is_state (bytes_of s) ≡ true
 unfolding is_state bytes_of
-is_state_lem s =
-    rw (
-      flag_is s.pins.c,
-      flag_is s.pins.d,
-      flag_is s.pins.s,
-      flag_is s.pins.hold,
-      flag_is s.pins.w,
-      flag_is s.selection.selected,
-      flag_is s.selection.held,
-      flag_is s.selection.seen,
-      flag_is s.command.away,
-      flag_is s.registers.wel,
-      flag_is s.registers.locked,
-      (instruction-back s.command.instruction).0,
-      (level-back s.output.q).0,
-      (kind-back s.cycle.kind).0,
-    )
+is_state_lem s = simp (flag_is, (instruction-back s.command.instruction).0, (level-back s.output.q).0, (kind-back s.cycle.kind).0)
 
 pub state-back : (s : State) → s.place.address < 2 ^ 32 → s.place.start < 2 ^ 32 → s.place.left < 2 ^ 32 → state_at (bytes_of s) ≡ s
 unfolding bytes_of
-state-back s a b c =
-    rw (
-      four-back s.place.address a,
-      four-back s.place.start b,
-      four-back s.place.left c,
-      number-back s.pins.c,
-      number-back s.pins.d,
-      number-back s.pins.s,
-      number-back s.pins.hold,
-      number-back s.pins.w,
-      number-back s.selection.selected,
-      number-back s.selection.held,
-      number-back s.selection.seen,
-      number-back s.command.away,
-      number-back s.registers.wel,
-      number-back s.registers.locked,
-      (instruction-back s.command.instruction).1,
-      (level-back s.output.q).1,
-      (kind-back s.cycle.kind).1,
-    )
+state-back s a b c = simp (four-back, number-back, (instruction-back s.command.instruction).1, (level-back s.output.q).1, (kind-back s.cycle.kind).1)

@@ -60,6 +60,7 @@ fn put_others(room: &mut [u8], s: State)
 }
 
 // Puts a state.
+#[tactic(auto, unfolding(crate::specs::StateBytes::bytes_of))]
 pub fn put_state(room: &mut [u8], s: State)
     requires { length room.old ≡ 36 }
     ensures { room.new ≡ bytes_of s }

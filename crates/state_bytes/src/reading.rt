@@ -1,6 +1,6 @@
 // Reading a state from its bytes. specs/StateBytes.antt says which byte is what.
 
-ghost use Rattle.std.specs.Prelude.{◌≡◌, ◌+◌, ◌≤◌, length, get_or};
+ghost use Rattle.std.specs.Prelude.{◌≡◌, ◌+◌, ◌≤◌, get_or};
 ghost use Rattle.rules.specs.Trace.{four};
 ghost use Rattle.state_bytes.specs.StateBytes.{instructions, levels, kinds, is_state, state_at, no_state, state_of};
 ghost use Rattle.state_bytes.specs.StateBytes.{place_at, pins_at, selection_at, command_at, registers_at, output_at, cycle_at, input_at, filler_at};
@@ -9,72 +9,61 @@ use rules::{
     Command, Cycle, Filler, Input, Instruction, Kind, Level, Output, Pins, Place, Registers,
     Selection, State,
 };
-use traces::trace::two_at;
 
-// An instruction by its place in the list.
-fn instruction_at(place: u8) -> Instruction
-    ensures { result ≡ get_or instructions place Instruction.Unknown }
-{
-    match place {
-        0 => Instruction::Wren,
-        1 => Instruction::Wrdi,
-        2 => Instruction::Rdsr,
-        3 => Instruction::Wrsr,
-        4 => Instruction::Read,
-        5 => Instruction::Write,
-        6 => Instruction::Rdid,
-        7 => Instruction::Rdls,
-        8 => Instruction::Wrid,
-        9 => Instruction::Lid,
-        _ => Instruction::Unknown,
-    }
-}
+// The lists of StateBytes: what stands at a place in one of them is what a byte of that number means.
+const INSTRUCTIONS: [Instruction; 11] = [
+    Instruction::Wren,
+    Instruction::Wrdi,
+    Instruction::Rdsr,
+    Instruction::Wrsr,
+    Instruction::Read,
+    Instruction::Write,
+    Instruction::Rdid,
+    Instruction::Rdls,
+    Instruction::Wrid,
+    Instruction::Lid,
+    Instruction::Unknown,
+];
 
-// A level by its place in the list.
-fn level_at(place: u8) -> Level
-    ensures { result ≡ get_or levels place Level.Z }
-{
-    match place {
-        0 => Level::Low,
-        1 => Level::High,
-        _ => Level::Z,
-    }
-}
+const LEVELS: [Level; 3] = [Level::Low, Level::High, Level::Z];
 
-// A cycle by its place in the list, none first.
-fn kind_at(place: u8) -> Kind
-    ensures { result ≡ get_or kinds place Kind.None }
+const KINDS: [Kind; 5] = [
+    Kind::None,
+    Kind::Array,
+    Kind::Identification,
+    Kind::Status,
+    Kind::Lock,
+];
+
+// What stands at a place in a list, or past its end another.
+fn listed<T: Copy>(list: &[T], place: u8, other: T) -> T
+    ensures { result ≡ get_or list.now place other }
 {
-    match place {
-        1 => Kind::Array,
-        2 => Kind::Identification,
-        3 => Kind::Status,
-        4 => Kind::Lock,
-        _ => Kind::None,
-    }
+    list.get(usize::from(place)).copied().unwrap_or(other)
 }
 
 // Four bytes at a place, the least significant first.
-fn four_at(bytes: &[u8], at: usize) -> usize
-    requires { at + 4 ≤ length bytes.now }
+fn four_at(bytes: &[u8; 36], at: usize) -> usize
+    requires { at + 4 ≤ 36 }
     ensures { result ≡ four bytes.now at }
 {
-    bits::four(two_at(bytes, at), two_at(bytes, at + 2)) as usize
+    u32::from_le_bytes([bytes[at], bytes[at + 1], bytes[at + 2], bytes[at + 3]]) as usize
 }
 
 // Whether bytes are a state at all.
+#[tactic(auto, unfolding(crate::specs::StateBytes::is_state))]
 pub fn is_state(bytes: &[u8]) -> bool
     ensures { result ≡ is_state bytes.now }
 {
-    if bytes.len() != 36 {
-        return false;
-    }
-    memory::are_marks(&bytes[12..23]) & (bytes[23] <= 10) & (bytes[24] <= 2) & (bytes[25] <= 4)
+    bytes.len() == 36
+        && memory::are_marks(&bytes[12..23])
+        && bytes[23] <= 10
+        && bytes[24] <= 2
+        && bytes[25] <= 4
 }
 
 // The groups of the state, read from its bytes.
-fn place_at(bytes: &[u8]) -> Place
-    requires { 36 ≤ length bytes.now }
+fn place_at(bytes: &[u8; 36]) -> Place
     ensures { result ≡ place_at bytes.now }
 {
     Place {
@@ -84,8 +73,7 @@ fn place_at(bytes: &[u8]) -> Place
     }
 }
 
-fn pins_at(bytes: &[u8]) -> Pins
-    requires { 36 ≤ length bytes.now }
+fn pins_at(bytes: &[u8; 36]) -> Pins
     ensures { result ≡ pins_at bytes.now }
 {
     Pins {
@@ -97,8 +85,7 @@ fn pins_at(bytes: &[u8]) -> Pins
     }
 }
 
-fn selection_at(bytes: &[u8]) -> Selection
-    requires { 36 ≤ length bytes.now }
+fn selection_at(bytes: &[u8; 36]) -> Selection
     ensures { result ≡ selection_at bytes.now }
 {
     Selection {
@@ -108,18 +95,16 @@ fn selection_at(bytes: &[u8]) -> Selection
     }
 }
 
-fn command_at(bytes: &[u8]) -> Command
-    requires { 36 ≤ length bytes.now }
+fn command_at(bytes: &[u8; 36]) -> Command
     ensures { result ≡ command_at bytes.now }
 {
     Command {
-        instruction: instruction_at(bytes[23]),
+        instruction: listed(&INSTRUCTIONS, bytes[23], Instruction::Unknown),
         away: bytes[20] == 1,
     }
 }
 
-fn registers_at(bytes: &[u8]) -> Registers
-    requires { 36 ≤ length bytes.now }
+fn registers_at(bytes: &[u8; 36]) -> Registers
     ensures { result ≡ registers_at bytes.now }
 {
     Registers {
@@ -129,28 +114,25 @@ fn registers_at(bytes: &[u8]) -> Registers
     }
 }
 
-fn output_at(bytes: &[u8]) -> Output
-    requires { 36 ≤ length bytes.now }
+fn output_at(bytes: &[u8; 36]) -> Output
     ensures { result ≡ output_at bytes.now }
 {
     Output {
         sending: bytes[30],
-        q: level_at(bytes[24]),
+        q: listed(&LEVELS, bytes[24], Level::Z),
     }
 }
 
-fn cycle_at(bytes: &[u8]) -> Cycle
-    requires { 36 ≤ length bytes.now }
+fn cycle_at(bytes: &[u8; 36]) -> Cycle
     ensures { result ≡ cycle_at bytes.now }
 {
     Cycle {
-        kind: kind_at(bytes[25]),
+        kind: listed(&KINDS, bytes[25], Kind::None),
         next: bytes[32],
     }
 }
 
-fn input_at(bytes: &[u8]) -> Input
-    requires { 36 ≤ length bytes.now }
+fn input_at(bytes: &[u8; 36]) -> Input
     ensures { result ≡ input_at bytes.now }
 {
     Input {
@@ -161,8 +143,7 @@ fn input_at(bytes: &[u8]) -> Input
     }
 }
 
-fn filler_at(bytes: &[u8]) -> Filler
-    requires { 36 ≤ length bytes.now }
+fn filler_at(bytes: &[u8; 36]) -> Filler
     ensures { result ≡ filler_at bytes.now }
 {
     Filler {
@@ -172,8 +153,7 @@ fn filler_at(bytes: &[u8]) -> Filler
     }
 }
 
-fn state_at(bytes: &[u8]) -> State
-    requires { 36 ≤ length bytes.now }
+fn state_at(bytes: &[u8; 36]) -> State
     ensures { result ≡ state_at bytes.now }
 {
     State {
@@ -199,11 +179,12 @@ pub fn no_state() -> State
 }
 
 // The state that bytes are, or stand for.
+#[tactic(auto, unfolding(crate::specs::StateBytes::state_of, crate::specs::StateBytes::is_state))]
 pub fn state_of(bytes: &[u8]) -> State
     ensures { result ≡ state_of bytes.now }
 {
-    if !is_state(bytes) {
-        return no_state();
+    match <&[u8; 36]>::try_from(bytes) {
+        Ok(state) if is_state(state) => state_at(state),
+        _ => no_state(),
     }
-    state_at(bytes)
 }
