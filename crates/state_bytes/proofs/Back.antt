@@ -1,11 +1,12 @@
 -- Each part of a state that was put as bytes is read back, and with them the whole.
-use Prim.Native.Nat.{ℕ, ◌+◌, ◌*◌, ◌/◌, ◌%◌, ◌^◌, ◌<◌}
-use mathlib.Core.Path.{◌≡◌, refl}
-use mathlib.Core.Bool.{Bool, true, false}
+use Prim.Native.Nat.{ℕ, ◌+◌, ◌*◌, ◌^◌, ◌<◌}
+use mathlib.Core.Path.{◌≡◌}
+use mathlib.Core.Bool.{Bool, true}
 use native.Mathlib.Omega.{arith}
 use lib.Dec.{leb}
-use Rattle.std.proofs.lemmas.Nat.{from_le_bytes-to_le_bytes_4}
 use lib.ListN.{get_or}
+use Rattle.std.proofs.lemmas.Grind.{common_steps}
+use Rattle.std.proofs.lemmas.Nat.{from_le_bytes-to_le_bytes_4}
 use Rattle.rules.specs.declared.Instruction.{Instruction}
 use Rattle.rules.specs.declared.Kind.{Kind}
 use Rattle.rules.specs.declared.Level.{Level}
@@ -16,33 +17,16 @@ use Rattle.rules.proofs.Choice.{number-back}
 use Rattle.state_bytes.specs.StateBytes.{instructions, levels, kinds, is_state, state_at, byte_of, instruction_number, kind_number, bytes_of}
 
 flag_is : (b : Bool) → leb (number b) 1 ≡ true
-flag_is true = refl
-flag_is false = refl
+flag_is b = grind (arith, common_steps)
 
 instruction-back : (i : Instruction) → (leb (instruction_number i) 10 ≡ true) × (get_or instructions (instruction_number i) Instruction.Unknown ≡ i)
-instruction-back Instruction.Wren = (refl, refl)
-instruction-back Instruction.Wrdi = (refl, refl)
-instruction-back Instruction.Rdsr = (refl, refl)
-instruction-back Instruction.Wrsr = (refl, refl)
-instruction-back Instruction.Read = (refl, refl)
-instruction-back Instruction.Write = (refl, refl)
-instruction-back Instruction.Rdid = (refl, refl)
-instruction-back Instruction.Rdls = (refl, refl)
-instruction-back Instruction.Wrid = (refl, refl)
-instruction-back Instruction.Lid = (refl, refl)
-instruction-back Instruction.Unknown = (refl, refl)
+instruction-back i = grind (arith, common_steps)
 
 level-back : (q : Level) → (leb (answer_byte q) 2 ≡ true) × (get_or levels (answer_byte q) Level.Z ≡ q)
-level-back Level.Low = (refl, refl)
-level-back Level.High = (refl, refl)
-level-back Level.Z = (refl, refl)
+level-back q = grind (arith, common_steps)
 
 kind-back : (k : Kind) → (leb (kind_number k) 4 ≡ true) × (get_or kinds (kind_number k) Kind.None ≡ k)
-kind-back Kind.None = (refl, refl)
-kind-back Kind.Array = (refl, refl)
-kind-back Kind.Identification = (refl, refl)
-kind-back Kind.Status = (refl, refl)
-kind-back Kind.Lock = (refl, refl)
+kind-back k = grind (arith, common_steps)
 
 four-back : (n : ℕ) → n < 2 ^ 32 → byte_of n 0 + byte_of n 8 * 256 + (byte_of n 16 + byte_of n 24 * 256) * 65_536 ≡ n
 four-back n h = omega (arith, from_le_bytes-to_le_bytes_4 n h)

@@ -1,3 +1,3 @@
--- The laws of the state as bytes, and that each part of a state is read back.
+-- What bytes that are a state have, and that each part of a state is read back.
 pub mod Packing
 pub mod Back

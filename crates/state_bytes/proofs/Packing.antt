@@ -1,12 +1,5 @@
--- The laws of the state as bytes.
-use Prim.Native.Nat.{ℕ}
-use mathlib.Core.Path.{◌≡◌}
-use mathlib.Core.Bool.{Bool, true, ◌&&◌}
-use mathlib.Core.List.{List}
-use lib.Dec.{eqb, leb}
-use lib.ListN.{get_or, take, drop, length}
-use borrow.Author.Tests.{eqb-true}
-use Rattle.std.proofs.Common.{arith}
+-- What bytes that are a state have.
+use Rattle.std.proofs.Common.{◌≡◌, ℕ, true, List, length, arith}
 use Rattle.std.proofs.lemmas.Grind.{common_steps}
 use Rattle.state_bytes.specs.StateBytes.{is_state}
 

@@ -35,7 +35,7 @@ const KINDS: [Kind; 5] = [
     Kind::Lock,
 ];
 
-// What stands at a place in a list, or past its end another.
+// What stands at a place of a list, and `other` past its end.
 fn listed<T: Copy>(list: &[T], place: u8, other: T) -> T
     ensures { result ≡ get_or list.now place other }
 {
