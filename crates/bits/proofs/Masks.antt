@@ -18,11 +18,6 @@ use Rattle.rules.specs.Judge.{storable}
 use Rattle.rules.specs.Sound.{◌implies◌}
 use Rattle.rules.proofs.Choice.{implied, below, passes}
 
--- A flag as a byte.
-pub byte-number : (b : Bool) → bool_byte b ≡ number b
-byte-number true = refl
-byte-number false = refl
-
 -- A bit at the low end.
 pub low_bit : (v : ℕ) (d : Bool) → v < 128 → bit_or (v * 2 % 256) (bool_byte d) ≡ v * 2 + number d
 low_bit v d h = let whole : v * 2 % 256 ≡ v * 2 = mod-eq_of_lt (omega arith) in rw whole (low d)

@@ -5,12 +5,11 @@
 
 ghost use Rattle.std.specs.Prelude.{◌≡◌, ◌+◌, ◌-◌, ◌*◌, ◌/◌, ◌%◌, ◌<◌};
 ghost use Rattle.rules.specs.World.{bit, number};
-ghost use Rattle.rules.specs.Device.{Widths};
 ghost use Rattle.rules.specs.Instruction.{longer};
 ghost use Rattle.rules.specs.Receive.{rolled};
 ghost use Rattle.rules.specs.Judge.{storable};
 
-use rules::Row;
+use rules::{Device, Row};
 
 // A byte so far with one bit more at its low end.
 pub fn with_bit(value: u8, d: bool) -> u8
@@ -20,20 +19,12 @@ pub fn with_bit(value: u8, d: bool) -> u8
     value << 1 | (d as u8)
 }
 
-// Bit k of a byte.
-pub fn bit_of(byte: u8, k: u8) -> bool
-    requires { k < 8 }
-    ensures { result ≡ bit byte k }
-{
-    byte >> k & 1 == 1
-}
-
-// Bit k of an address.
-pub fn address_bit(address: usize, k: usize) -> bool
+// Bit k of a byte or of an address.
+pub fn bit_of(number: usize, k: usize) -> bool
     requires { k < 64 }
-    ensures { result ≡ bit address k }
+    ensures { result ≡ bit number k }
 {
-    address >> k & 1 == 1
+    number >> k & 1 == 1
 }
 
 // A code without its bit 3, which is no part of it where the address is one byte.
@@ -44,36 +35,35 @@ pub fn without_bit_3(code: u8) -> u8
 }
 
 // The address with one byte more, bits above the array ignored.
-pub fn with_byte(row: Row, address: usize, byte: u8) -> usize
-    requires { (Widths row) × (address < row.cells) }
-    ensures { result ≡ longer row address byte }
+pub fn with_byte(device: Device, address: usize, byte: u8) -> usize
+    requires { address < device.row.cells }
+    ensures { result ≡ longer device.row address byte }
 {
-    (address << 8 | byte as usize) & (row.cells - 1)
+    (address << 8 | byte as usize) & (device.row.cells - 1)
 }
 
 // The place of an address within its page.
-pub fn place(row: Row, address: usize) -> usize
-    requires { Widths row }
-    ensures { result ≡ address % row.page }
+pub fn place(device: Device, address: usize) -> usize
+    ensures { result ≡ address % device.row.page }
 {
-    address & (row.page - 1)
+    address & (device.row.page - 1)
 }
 
 // The place after an address, round within its page.
-pub fn roll(row: Row, address: usize) -> usize
-    requires { (Widths row) × (address < row.cells) }
-    ensures { result ≡ rolled row address }
+pub fn roll(device: Device, address: usize) -> usize
+    requires { address < device.row.cells }
+    ensures { result ≡ rolled device.row address }
 {
-    let at = place(row, address);
-    address - at + place(row, at + 1)
+    let at = place(device, address);
+    address - at + place(device, at + 1)
 }
 
 // The cell after an address: after the last comes cell 0.
-pub fn cell_after(row: Row, address: usize) -> usize
-    requires { (Widths row) × (address < row.cells) }
-    ensures { result ≡ (address + 1) % row.cells }
+pub fn cell_after(device: Device, address: usize) -> usize
+    requires { address < device.row.cells }
+    ensures { result ≡ (address + 1) % device.row.cells }
 {
-    (address + 1) & (row.cells - 1)
+    (address + 1) & (device.row.cells - 1)
 }
 
 // The bits of a data byte that a device stores.
@@ -102,7 +92,7 @@ pub fn blocks(status: u8) -> u8
 pub fn two(low: u8, high: u8) -> usize
     ensures { result ≡ low + high * 256 }
 {
-    low as usize | (high as usize) << 8
+    u16::from_le_bytes([low, high]) as usize
 }
 
 // Two numbers of two bytes, the least significant first.

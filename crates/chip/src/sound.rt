@@ -1,26 +1,16 @@
 // The test for soundness, clause by clause. It is made once a call; within a run every event keeps a sound device sound.
 
 ghost use Rattle.std.specs.Prelude.{◌≡◌, ◌&&◌, ◌+◌, length, eqb, leb, if◌then◌else◌};
-ghost use Rattle.rules.specs.Device.{Widths};
-ghost use Rattle.rules.specs.Sound.{◌implies◌, all, is_z, received_clauses, cycle_clauses, resting_clauses, selected_clauses, page_clauses, is_sound};
+ghost use Rattle.rules.specs.Sound.{◌implies◌, all, received_clauses, cycle_clauses, resting_clauses, selected_clauses, page_clauses, is_sound};
 ghost use Rattle.rules.specs.Instruction.{busy};
 
-use rules::{Level, Row, State};
+use rules::{Device, Level, Row, State};
+use wire::receive::is_busy;
 
 pub fn implies(a: bool, b: bool) -> bool
     ensures { result ≡ (a implies b) }
 {
     !a | b
-}
-
-pub fn is_z(q: Level) -> bool
-    ensures { result ≡ is_z q }
-{
-    match q {
-        Level::Low => false,
-        Level::High => false,
-        Level::Z => true,
-    }
 }
 
 // The current byte, whole bytes and the address.
@@ -39,7 +29,7 @@ pub fn time_sound(row: Row, s: State) -> bool
     ensures { result ≡ (if busy s then leb 1 s.place.left && leb s.place.left row.time else eqb s.place.left 0) }
 {
     let left = s.place.left;
-    if wire::receive::is_busy(s) {
+    if is_busy(s) {
         (1 <= left) & (left <= row.time)
     } else {
         left == 0
@@ -47,23 +37,19 @@ pub fn time_sound(row: Row, s: State) -> bool
 }
 
 // Status, new status, time left and page start.
-pub fn cycle_sound(row: Row, s: State) -> bool
-    requires { Widths row }
-    ensures { result ≡ all (cycle_clauses row s) }
+pub fn cycle_sound(device: Device, s: State) -> bool
+    ensures { result ≡ all (cycle_clauses device.row s) }
 {
-    let cycle = s.cycle;
-    let kind = cycle.kind;
-    let change = tables::changes(kind);
+    let row = device.row;
     let status = s.registers.status;
-    let next = cycle.next;
+    let next = s.cycle.next;
     let start = s.place.start;
-    let first = implies(change.identification, start == 0);
     (bits::stored(row, status) == status)
         & (bits::stored(row, next) == next)
         & time_sound(row, s)
-        & (bits::place(row, start) == 0)
+        & (bits::place(device, start) == 0)
         & (start < row.cells)
-        & first
+        & implies(tables::changes(s.cycle.kind).identification, start == 0)
 }
 
 // Not selected: not held, nothing received, Q at Z.
@@ -71,12 +57,10 @@ pub fn resting_sound(s: State) -> bool
     ensures { result ≡ all (resting_clauses s) }
 {
     let off = !s.selection.selected;
-    let output = s.output;
-    let q = output.q;
     implies(off, !s.selection.held)
         & implies(off, s.input.bits == 0)
         & implies(off, s.input.bytes == 0)
-        & implies(off, is_z(q))
+        & implies(off, s.output.q == Level::Z)
 }
 
 // Selected: S low, W seen low, held by HOLD; and what a cycle turned away.
@@ -84,13 +68,10 @@ pub fn selected_sound(s: State) -> bool
     ensures { result ≡ all (selected_clauses s) }
 {
     let on = s.selection.selected;
-    let command = s.command;
-    let i = command.instruction;
-    let f = tables::facts(i);
-    let turned = (s.input.bytes == 0) | f.taken | command.away;
+    let taken = tables::facts(s.command.instruction).taken;
     implies(on, !s.pins.s)
         & implies(on, s.pins.w | s.selection.seen)
-        & implies(wire::receive::is_busy(s), turned)
+        & implies(is_busy(s), (s.input.bytes == 0) | taken | s.command.away)
         & implies(on, s.pins.c | (s.selection.held == !s.pins.hold))
 }
 
@@ -99,24 +80,20 @@ pub fn page_sound(row: Row, s: State) -> bool
     ensures { result ≡ all (page_clauses row s) }
 {
     let there = tables::has_identification(row);
-    let cycle = s.cycle;
-    let kind = cycle.kind;
-    let change = tables::changes(kind);
-    let command = s.command;
-    let i = command.instruction;
-    let f = tables::facts(i);
+    let change = tables::changes(s.cycle.kind);
     implies(s.registers.locked, there)
         & implies(change.identification | change.lock, there)
-        & implies(f.identifies, there)
+        & implies(tables::facts(s.command.instruction).identifies, there)
 }
 
 // Every clause, and the marks.
-pub fn is_sound(row: Row, s: State, latch: &[u8]) -> bool
-    requires { (Widths row) × (length latch.now ≡ row.page + row.page) }
-    ensures { result ≡ is_sound row s latch.now }
+pub fn is_sound(device: Device, s: State, latch: &[u8]) -> bool
+    requires { length latch.now ≡ device.row.page + device.row.page }
+    ensures { result ≡ is_sound device.row s latch.now }
 {
+    let row = device.row;
     received_sound(row, s)
-        & cycle_sound(row, s)
+        & cycle_sound(device, s)
         & resting_sound(s)
         & selected_sound(s)
         & page_sound(row, s)

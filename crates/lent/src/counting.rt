@@ -3,72 +3,36 @@
 
 ghost use Rattle.std.specs.Prelude.{◌≡◌};
 ghost use Rattle.rules.specs.Call.{counted_as, count_outcome, found_as, blank_outcome};
+ghost use Rattle.rules.specs.Refused.{number_of, page_of};
 
-use rules::Blank;
+use crate::judging::known_device;
+use rules::Refusal;
 
-// 1 where there is no such device; 2 for cells of a wrong length; 14 where there is not a count for each page; else 0.
-fn count_refused(device: u8, cells: &[u8], counts: &[u16]) -> usize
-    ensures { result ≡ (count_outcome device cells.now counts.now).number }
+// Each page gets its count, whatever stood there. Refused with 1 where there is no such device, 2 for cells of a wrong length, 14 where there is
+// not a count for each page.
+#[tactic(auto, unfolding(rules::specs::Call::count_outcome))]
+pub fn count_pages(device: u8, cells: &[u8], counts: &mut [u16]) -> Result<(), Refusal>
+    ensures { counted_as (number_of result) counts.new ≡ count_outcome device cells.now counts.old }
 {
-    if !tables::is_device(device) {
-        return 1;
+    let known = known_device(device)?;
+    if cells.len() != known.row.cells {
+        return Err(Refusal::Cells);
     }
-    let row = tables::row_of(device);
-    if cells.len() != row.cells {
-        return 2;
+    if counts.len() != tables::page_count(known) {
+        return Err(Refusal::Counts);
     }
-    if counts.len() != tables::page_count(row) {
-        return 14;
-    }
-    0
+    memory::counts::recount_all(known, cells, counts);
+    Ok(())
 }
 
-// Each page gets its count, whatever stood there.
-pub fn count_pages(device: u8, cells: &[u8], counts: &mut [u16]) -> usize
-    ensures { counted_as result counts.new ≡ count_outcome device cells.now counts.old }
+// The lowest page whose count is 0, or none. Refused with 1 and 14, as counting is.
+#[tactic(auto, unfolding(rules::specs::Call::blank_outcome))]
+pub fn first_blank(device: u8, counts: &[u16]) -> Result<Option<usize>, Refusal>
+    ensures { found_as (number_of result) (page_of result) ≡ blank_outcome device counts.now }
 {
-    let number = count_refused(device, cells, counts);
-    if number != 0 {
-        return number;
+    let pages = tables::page_count(known_device(device)?);
+    if counts.len() != pages {
+        return Err(Refusal::Counts);
     }
-    memory::counts::recount_all(tables::row_of(device), cells, counts);
-    0
-}
-
-// What a device's counts say: a number, and the first blank page.
-#[derive(Clone, Copy)]
-pub struct Found {
-    pub number: usize,
-    pub blank: Blank,
-}
-
-// 1 where there is no such device; 14 where there is not a count for each page; else 0.
-fn blank_refused(device: u8, counts: &[u16]) -> usize
-    ensures { result ≡ (blank_outcome device counts.now).number }
-{
-    if !tables::is_device(device) {
-        return 1;
-    }
-    if counts.len() != tables::page_count(tables::row_of(device)) {
-        return 14;
-    }
-    0
-}
-
-// The lowest page whose count is 0, or none. A refusal gives none.
-pub fn first_blank(device: u8, counts: &[u16]) -> Found
-    ensures { found_as result.number result.blank ≡ blank_outcome device counts.now }
-{
-    let number = blank_refused(device, counts);
-    if number != 0 {
-        return Found {
-            number: number,
-            blank: Blank::None,
-        };
-    }
-    let blank = memory::counts::first_blank(counts);
-    Found {
-        number: 0,
-        blank: blank,
-    }
+    Ok(memory::counts::first_blank(counts))
 }

@@ -1,56 +1,60 @@
-// What is lent, judged by its lengths: a number of document 01, or 0.
+// What is lent, judged by its lengths: the device that it fits, or why it is refused.
 
-ghost use Rattle.std.specs.Prelude.{◌≡◌, if◌then◌else◌};
+ghost use Rattle.std.specs.Prelude.{◌≡◌, ◌+◌, length, true, false, IfOk, MatchResult};
+ghost use Rattle.rules.specs.Device.{is_device, row_of, page_count};
 ghost use Rattle.rules.specs.Call.{memory_refusal, lent_refusal};
+ghost use Rattle.rules.specs.Refused.{number_of};
 
-// The number of what is wrong first, in document 01's order, or 0. No number hangs on what else is wrong besides.
-fn first_wrong(device: bool, cells: bool, identification: bool) -> usize
-    ensures { result ≡ (if device then 1 else if cells then 2 else if identification then 3 else 0) }
+use rules::{Device, Refusal};
+
+// The device of a number, refused with 1 where there is none.
+pub(crate) fn known_device(device: u8) -> Result<Device, Refusal>
+    ensures { MatchResult result (λ d. (is_device device ≡ true) × (d.row ≡ row_of device)) (λ e. (is_device device ≡ false) × (e ≡ Refusal.Device)) }
 {
-    if device {
-        return 1;
+    if tables::is_device(device) {
+        Ok(tables::device(device))
+    } else {
+        Err(Refusal::Device)
     }
-    if cells {
-        return 2;
-    }
-    if identification {
-        return 3;
-    }
-    0
 }
 
-// 1 to 3: no such device; cells or identification page of a wrong length. 0 otherwise.
-pub fn memory_refused(device: u8, cells: &[u8], identification: &[u8]) -> usize
-    ensures { result ≡ memory_refusal device cells.now identification.now }
+// 1 to 3, in document 01's order: no such device; cells or identification page of a wrong length. No number hangs on what else is wrong besides.
+#[tactic(auto, unfolding(rules::specs::Call::memory_refusal))]
+pub fn memory_refused(device: u8, cells: &[u8], identification: &[u8]) -> Result<Device, Refusal>
+    ensures number { number_of result ≡ memory_refusal device cells.now identification.now }
+    ensures known { IfOk result (λ d. d.row ≡ row_of device) }
+    ensures fits { IfOk result (λ d. (length cells.now ≡ d.row.cells) × (length identification.now ≡ d.row.identification)) }
 {
-    let row = tables::row_of(device);
-    first_wrong(
-        !tables::is_device(device),
-        cells.len() != row.cells,
-        identification.len() != row.identification,
-    )
+    let known = known_device(device)?;
+    if cells.len() != known.row.cells {
+        return Err(Refusal::Cells);
+    }
+    if identification.len() != known.row.identification {
+        return Err(Refusal::Identification);
+    }
+    Ok(known)
 }
 
-// 1 to 3, then 4: a latch of a wrong length; then 14: not a count for each page. 0 otherwise.
+// 1 to 3, then 4: a latch of a wrong length; then 14: not a count for each page.
+#[tactic(auto, unfolding(rules::specs::Call::lent_refusal))]
 pub fn lent_refused(
     device: u8,
     cells: &[u8],
     identification: &[u8],
     latch: &[u8],
     counts: &[u16],
-) -> usize
-    ensures { result ≡ lent_refusal device cells.now identification.now latch.now counts.now }
+) -> Result<Device, Refusal>
+    ensures number { number_of result ≡ lent_refusal device cells.now identification.now latch.now counts.now }
+    ensures known { IfOk result (λ d. d.row ≡ row_of device) }
+    ensures fits { IfOk result (λ d. (length cells.now ≡ d.row.cells) × (length identification.now ≡ d.row.identification)) }
+    ensures fits_latch { IfOk result (λ d. (length latch.now ≡ d.row.page + d.row.page) × (length counts.now ≡ page_count d.row)) }
 {
-    let number = memory_refused(device, cells, identification);
-    if number != 0 {
-        return number;
+    let known = memory_refused(device, cells, identification)?;
+    if latch.len() != known.row.page + known.row.page {
+        return Err(Refusal::Latch);
     }
-    let row = tables::row_of(device);
-    if latch.len() != row.page + row.page {
-        return 4;
+    if counts.len() != tables::page_count(known) {
+        return Err(Refusal::Counts);
     }
-    if counts.len() != tables::page_count(row) {
-        return 14;
-    }
-    0
+    Ok(known)
 }

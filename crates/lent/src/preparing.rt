@@ -1,22 +1,16 @@
 // A device as it is prepared: its state, and the lent buffers.
 
 ghost use Rattle.std.specs.Prelude.{◌≡◌};
-ghost use Rattle.rules.specs.World.{world_of};
 ghost use Rattle.rules.specs.Device.{prepared_state};
 ghost use Rattle.rules.specs.Call.{prepared_as, prepare_outcome};
+ghost use Rattle.rules.specs.World.{world_of};
+ghost use Rattle.rules.specs.Refused.{number_of, state_of};
 
 use crate::judging::lent_refused;
 use rules::{
-    Command, Cycle, Filler, Input, Instruction, Kind, Level, Output, Pins, Place, Registers,
-    Selection, State,
+    Command, Cycle, Filler, Input, Instruction, Kind, Level, Output, Pins, Place, Refusal,
+    Registers, Selection, State,
 };
-
-// What preparing and loading give back: the number, and the state.
-#[derive(Clone, Copy)]
-pub struct Prepared {
-    pub number: usize,
-    pub state: State,
-}
 
 // The state of a prepared device, the same for all.
 pub fn prepared_state() -> State
@@ -71,32 +65,22 @@ pub fn prepared_state() -> State
     }
 }
 
-// Prepares a device in the lent buffers.
+// Prepares a device in the lent buffers, and gives its state. Refused, it leaves them as they are.
+#[tactic(auto, unfolding(rules::specs::Call::prepare_outcome, rules::specs::Device::prepared))]
 pub fn prepare(
     device: u8,
     cells: &mut [u8],
     identification: &mut [u8],
     latch: &mut [u8],
     counts: &mut [u16],
-) -> Prepared
-    ensures { prepared_as result.number (world_of result.state cells.new identification.new latch.new counts.new)
+) -> Result<State, Refusal>
+    ensures { prepared_as (number_of result) (world_of (state_of prepared_state result) cells.new identification.new latch.new counts.new)
         ≡ prepare_outcome device cells.old identification.old latch.old counts.old }
 {
-    let number = lent_refused(device, cells, identification, latch, counts);
-    let state = prepared_state();
-    if number != 0 {
-        return Prepared {
-            number: number,
-            state: state,
-        };
-    }
-    let row = tables::row_of(device);
-    memory::fill(cells, 0xFF);
-    memory::prepare_identification(row, identification);
-    memory::fill(latch, 0);
-    memory::counts::clear(counts);
-    Prepared {
-        number: 0,
-        state: state,
-    }
+    let known = lent_refused(device, cells, identification, latch, counts)?;
+    cells.fill(0xFF);
+    memory::prepare_identification(known, identification);
+    latch.fill(0);
+    counts.fill(0);
+    Ok(prepared_state())
 }

@@ -4,32 +4,29 @@
 
 #![tactic(auto)]
 
-ghost use Rattle.std.specs.Prelude.{◌≡◌};
+ghost use Rattle.std.specs.Prelude.{◌≡◌, IfOk};
 ghost use Rattle.rules.specs.World.{world_of};
+ghost use Rattle.rules.specs.Device.{row_of};
 ghost use Rattle.rules.specs.Send.{status_byte};
+ghost use Rattle.rules.specs.Sound.{Sound, Lent};
 ghost use Rattle.rules.specs.Trace.{progress_of};
 ghost use Rattle.rules.specs.Call.{world_refusal, replied_as, event_outcome, run_outcome};
+ghost use Rattle.rules.specs.Lending.{AreSame, world_in};
+ghost use Rattle.rules.specs.Refused.{number_of, answer_of};
 
 use lent::judging::lent_refused;
-use rules::{Event, State};
-use traces::records::Ran;
+use rules::{Device, Event, Level, Refusal, State, World};
+use traces::records::{Ran, run_records};
 
 // The calls that run nothing: preparing, counting, the first blank page and what is stored, whose contracts stand in `lent`, and the view of a
 // page, in `pages`.
-pub use lent::counting::{Found, count_pages, first_blank};
+pub use lent::counting::{count_pages, first_blank};
 pub use lent::loading::{load, stored};
-pub use lent::preparing::{Prepared, prepare, prepared_state};
+pub use lent::preparing::{prepare, prepared_state};
 pub use pages::view;
 
-// What an event gives back: its number, the answer (0, 1, or 2 for Z), and the state.
-#[derive(Clone, Copy)]
-pub struct Replied {
-    pub number: usize,
-    pub answer: usize,
-    pub state: State,
-}
-
-// 1 to 4 and 14 for what is lent, then 5: a state that is not sound, or a mark that is not 0 or 1.
+// A device and what is lent for it: refused for what is lent, and then for a state that is not sound, or a mark that is not 0 or 1.
+#[tactic(auto, unfolding(rules::specs::Call::world_refusal))]
 pub fn world_refused(
     device: u8,
     s: State,
@@ -37,105 +34,67 @@ pub fn world_refused(
     identification: &[u8],
     latch: &[u8],
     counts: &[u16],
-) -> usize
-    ensures { result ≡ world_refusal device (world_of s cells.now identification.now latch.now counts.now) }
+) -> Result<Device, Refusal>
+    ensures number { number_of result ≡ world_refusal device (world_of s cells.now identification.now latch.now counts.now) }
+    ensures known { IfOk result (λ known. known.row ≡ row_of device) }
 {
-    let number = lent_refused(device, cells, identification, latch, counts);
-    if number != 0 {
-        return number;
+    let known = lent_refused(device, cells, identification, latch, counts)?;
+    if chip::sound::is_sound(known, s, latch) {
+        Ok(known)
+    } else {
+        Err(Refusal::State)
     }
-    let row = tables::row_of(device);
-    if chip::sound::is_sound(row, s, latch) {
-        return 0;
-    }
-    5
 }
 
-// One event.
-pub fn event(
-    device: u8,
-    s: State,
-    cells: &mut [u8],
-    identification: &mut [u8],
-    latch: &mut [u8],
-    counts: &mut [u16],
-    event: Event,
-) -> Replied
-    ensures { replied_as result.number result.answer (world_of result.state cells.new identification.new latch.new counts.new)
-        ≡ event_outcome device (world_of s cells.old identification.old latch.old counts.old) event }
+// The same of a world.
+pub fn judged(device: u8, world: &World) -> Result<Device, Refusal>
+    ensures number { number_of result ≡ world_refusal device (world_in world.now) }
+    ensures known { IfOk result (λ known. known.row ≡ row_of device) }
+    ensures sound { IfOk result (λ known. Sound known.row (world_in world.now)) }
+    ensures lent { IfOk result (λ known. Lent known.row (world_in world.now)) }
 {
-    let number = world_refused(device, s, cells, identification, latch, counts);
-    if number != 0 {
-        return Replied {
-            number: number,
-            answer: 2,
-            state: s,
-        };
-    }
-    let row = tables::row_of(device);
-    let tried = chip::event::attempt(row, s, cells, identification, latch, counts, event);
-    let is_refused = tried.number != 0;
-    if is_refused {
-        let kept = tried.state;
-        return Replied {
-            number: tried.number,
-            answer: 2,
-            state: kept,
-        };
-    }
-    let t = tried.state;
-    let answer = chip::event::answer(t) as usize;
-    Replied {
-        number: 0,
-        answer: answer,
-        state: t,
-    }
+    world_refused(
+        device,
+        world.state,
+        world.cells,
+        world.identification,
+        world.latch,
+        world.counts,
+    )
+}
+
+// One event, and the level of Q after it. Refused, it changes nothing, and Q counts as Z.
+#[tactic(auto, unfolding(rules::specs::Call::event_outcome, rules::specs::Event::next))]
+pub fn event(device: u8, world: &mut World, event: Event) -> Result<Level, Refusal>
+    ensures same { AreSame world.new world.old }
+    ensures outcome { replied_as (number_of result) (answer_of result) (world_in world.new) ≡ event_outcome device (world_in world.old) event }
+{
+    let known = judged(device, world)?;
+    chip::event::attempt(known, world, event)?;
+    Ok(chip::event::answer(world.state))
 }
 
 // A trace, as many of its records as asked for.
-pub fn run(
-    device: u8,
-    s: State,
-    cells: &mut [u8],
-    identification: &mut [u8],
-    latch: &mut [u8],
-    counts: &mut [u16],
-    trace: &[u8],
-    answers: &mut [u8],
-    limit: usize,
-) -> Ran
-    ensures { progress_of result.number result.taken result.done (world_of result.state cells.new identification.new latch.new counts.new) answers.new
-        ≡ run_outcome device (world_of s cells.old identification.old latch.old counts.old) trace.now answers.old limit }
+#[tactic(auto, unfolding(rules::specs::Call::run_outcome))]
+pub fn run(device: u8, world: &mut World, trace: &[u8], answers: &mut [u8], limit: usize) -> Ran
+    ensures same { AreSame world.new world.old }
+    ensures outcome { progress_of (number_of result.ended) result.taken result.done (world_in world.new) answers.new
+        ≡ run_outcome device (world_in world.old) trace.now answers.old limit }
 {
-    let number = world_refused(device, s, cells, identification, latch, counts);
-    if number != 0 {
-        return Ran {
-            number: number,
+    match judged(device, world) {
+        Ok(known) => run_records(known, world, trace, answers, limit),
+        Err(refusal) => Ran {
+            ended: Err(refusal),
             done: 0,
             taken: 0,
-            state: s,
-        };
+        },
     }
-    let row = tables::row_of(device);
-    traces::records::run_records(
-        row,
-        s,
-        cells,
-        identification,
-        latch,
-        counts,
-        trace,
-        answers,
-        limit,
-    )
 }
 
 // The byte that RDSR would send in a state, sound or not.
 pub fn status_byte(s: State) -> usize
     ensures { result ≡ status_byte s }
 {
-    let stored = s.registers.status as usize;
-    let wel = s.registers.wel as usize;
     let busy = wire::receive::is_busy(s) as usize;
-    stored + wel * 2 + busy
+    s.registers.status as usize + (s.registers.wel as usize) * 2 + busy
 }

@@ -1,4 +1,4 @@
--- The laws of the calls for C, what they are worth, and that their outcomes are unique.
+-- That a judged state was a state, what the calls for C are worth, and that their outcomes are unique.
 pub mod Leaving
 pub mod Promises
 pub mod Unique

@@ -10,6 +10,7 @@ use Rattle.rules.specs.Device.{is_device, row_of, page_count}
 use Rattle.rules.specs.Send.{status_byte}
 use Rattle.rules.specs.Trace.{length_of, pin_event}
 use Rattle.rules.specs.Call.{memory_refusal, world_refusal, prepare_outcome, found_number, page_number, blank_outcome, stored_as, stored_in, load_outcome, event_outcome, run_outcome, view_outcome}
+use Rattle.rules.specs.Call.{Replied as Answered, replied_as as answered_as}
 use Rattle.m95_c.specs.declared.showing.Sizes.{Sizes}
 use Rattle.state_bytes.specs.StateBytes.{state_length, is_state, state_of, state_at, no_state, bytes_of}
 
@@ -103,6 +104,17 @@ pub record Replied : Type 0 where
 
 abbrev pub replied_as : ℕ → ℕ → Buffers → Replied
 replied_as number answer b = record { number = number; answer = answer; buffers = b }
+
+-- The same of a world, in the numbers of the library's own outcome.
+unfoldable pub asked : ℕ → World → ℕ → ℕ → Answered
+asked device w kind value =
+    let o = event_outcome device w (event_of kind value) in
+    let n : ℕ =
+    if not (eqb (world_refusal device w) 0) then world_refusal device w
+    else if not (eqb (event_refusal kind value) 0) then event_refusal kind value
+    else o.number in
+    if eqb n 0 then answered_as 0 o.answer o.world
+    else answered_as n 2 w
 
 -- 1 to 4, 14 and 5, then 7 and 9, then 11 or 15. A refused event answers 2 and changes nothing.
 unfoldable pub event_left : ℕ → Buffers → ℕ → ℕ → Replied

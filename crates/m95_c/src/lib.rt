@@ -4,13 +4,17 @@
 
 #![tactic(auto)]
 
-ghost use Rattle.std.specs.Prelude.{◌≡◌};
-ghost use Rattle.rules.specs.Call.{counted_as, count_outcome};
+ghost use Rattle.std.specs.Prelude.{◌≡◌, IfOk};
+ghost use Rattle.rules.specs.Refused.{number_of, answer_of};
+ghost use Rattle.rules.specs.Call.{counted_as, count_outcome, replied_as as outcome_as};
+ghost use Rattle.rules.specs.Device.{row_of};
+ghost use Rattle.rules.specs.Lending.{AreSame, world_in};
+ghost use Rattle.rules.specs.Sound.{Sound};
 ghost use Rattle.state_bytes.specs.StateBytes.{version};
-ghost use Rattle.m95_c.specs.Left.{device_of, buffers_of, buffers_refusal, prepared_as, prepare_left, loaded_as, load_left, replied_as, event_left, ran_as, run_left};
+ghost use Rattle.m95_c.specs.Left.{device_of, buffers_of, buffers_refusal, prepared_as, prepare_left, loaded_as, load_left, replied_as, asked, event_left, ran_as, run_left};
 
-use numbers::{byte_for, device_of, event_of, event_refused};
-use rules::Stored;
+use numbers::{byte_for, device_of, event_of};
+use rules::{Level, Refusal, Stored, World, number_of};
 use state_bytes::{no_state, put_state, state_of};
 
 mod numbers;
@@ -36,17 +40,18 @@ pub extern "C" fn m95_refusal(
 ) -> usize
     ensures { result ≡ buffers_refusal device (buffers_of state.now cells.now identification.now latch.now counts.now) }
 {
-    m95::world_refused(
+    number_of(m95::world_refused(
         device_of(device),
         state_of(state),
         cells,
         identification,
         latch,
         counts,
-    )
+    ))
 }
 
 // Prepares a device.
+#[tactic(auto, unfolding(crate::specs::Left::prepare_left))]
 #[unsafe(no_mangle)]
 pub extern "C" fn m95_prepare(
     device: usize,
@@ -59,13 +64,20 @@ pub extern "C" fn m95_prepare(
     ensures { prepared_as result (buffers_of state.new cells.new identification.new latch.new counts.new)
         ≡ prepare_left device (buffers_of state.old cells.old identification.old latch.old counts.old) }
 {
-    let number = device_of(device);
+    let device = device_of(device);
     if state.len() != 36 {
-        return m95::world_refused(number, no_state(), cells, identification, latch, counts);
+        return number_of(m95::world_refused(
+            device,
+            no_state(),
+            cells,
+            identification,
+            latch,
+            counts,
+        ));
     }
-    let prepared = m95::prepare(number, cells, identification, latch, counts);
-    put_state(state, prepared.state);
-    prepared.number
+    let prepared = m95::prepare(device, cells, identification, latch, counts);
+    put_state(state, prepared.unwrap_or(m95::prepared_state()));
+    number_of(prepared)
 }
 
 // Counts a device's pages afresh from its cells.
@@ -73,10 +85,11 @@ pub extern "C" fn m95_prepare(
 pub extern "C" fn m95_count_pages(device: usize, cells: &[u8], counts: &mut [u16]) -> usize
     ensures { counted_as result counts.new ≡ count_outcome (device_of device) cells.now counts.old }
 {
-    m95::count_pages(device_of(device), cells, counts)
+    number_of(m95::count_pages(device_of(device), cells, counts))
 }
 
 // Puts the state of a device that has just got its power, with what it has stored.
+#[tactic(auto, unfolding(crate::specs::Left::load_left))]
 #[unsafe(no_mangle)]
 pub extern "C" fn m95_load(device: usize, state: &mut [u8], status: usize, lock: usize) -> usize
     ensures { loaded_as result state.new ≡ load_left device state.old status lock }
@@ -85,18 +98,29 @@ pub extern "C" fn m95_load(device: usize, state: &mut [u8], status: usize, lock:
         status: byte_for(status),
         lock: byte_for(lock),
     };
-    let loaded = m95::load(device_of(device), stored);
-    if loaded.number != 0 {
-        return loaded.number;
+    match m95::load(device_of(device), stored) {
+        Ok(loaded) if state.len() == 36 => {
+            put_state(state, loaded);
+            0
+        }
+        Ok(_) => Refusal::State.number(),
+        Err(refusal) => refusal.number(),
     }
-    if state.len() != 36 {
-        return 5;
-    }
-    put_state(state, loaded.state);
-    0
+}
+
+// An event by its kind and its number, refused first for what is lent.
+#[tactic(auto, unfolding(crate::specs::Left::asked, rules::specs::Call::event_outcome))]
+fn replied(device: u8, world: &mut World, kind: usize, value: usize) -> Result<Level, Refusal>
+    ensures same { AreSame world.new world.old }
+    ensures outcome { outcome_as (number_of result) (answer_of result) (world_in world.new) ≡ asked device (world_in world.old) kind value }
+    ensures sound { IfOk result (λ q. Sound (row_of device) (world_in world.old)) }
+{
+    m95::judged(device, world)?;
+    m95::event(device, world, event_of(kind, value)?)
 }
 
 // One event.
+#[tactic(auto, using(crate::proofs::Leaving::event_refused), unfolding(crate::specs::Left::event_left, crate::specs::Left::asked))]
 #[unsafe(no_mangle)]
 pub extern "C" fn m95_event(
     device: usize,
@@ -112,28 +136,28 @@ pub extern "C" fn m95_event(
     ensures { replied_as result answer.new (buffers_of state.new cells.new identification.new latch.new counts.new)
         ≡ event_left device (buffers_of state.old cells.old identification.old latch.old counts.old) kind value }
 {
-    let d = device_of(device);
-    let s = state_of(state);
-    let bad = event_refused(kind, value);
-    *answer = 2;
-    let number = m95::world_refused(d, s, cells, identification, latch, counts);
-    if number != 0 {
-        return number;
+    let mut world = World {
+        state: state_of(state),
+        cells,
+        identification,
+        latch,
+        counts,
+    };
+    match replied(device_of(device), &mut world, kind, value) {
+        Ok(level) => {
+            put_state(state, world.state);
+            *answer = usize::from(level.byte());
+            0
+        }
+        Err(refusal) => {
+            *answer = 2;
+            refusal.number()
+        }
     }
-    if bad != 0 {
-        return bad;
-    }
-    let event = event_of(kind, value);
-    let reply = m95::event(d, s, cells, identification, latch, counts, event);
-    if reply.number != 0 {
-        return reply.number;
-    }
-    put_state(state, reply.state);
-    *answer = reply.answer;
-    0
 }
 
 // A trace, as many of its records as asked for.
+#[tactic(auto, unfolding(crate::specs::Left::run_left))]
 #[unsafe(no_mangle)]
 pub extern "C" fn m95_run(
     device: usize,
@@ -152,27 +176,21 @@ pub extern "C" fn m95_run(
         ≡ run_left device (buffers_of state.old cells.old identification.old latch.old counts.old)
         trace.now answers.old limit }
 {
-    let d = device_of(device);
-    let s = state_of(state);
-    *taken = 0;
-    *done = 0;
-    let number = m95::world_refused(d, s, cells, identification, latch, counts);
-    if number != 0 {
-        return number;
-    }
-    let ran = m95::run(
-        d,
-        s,
+    let mut world = World {
+        state: state_of(state),
         cells,
         identification,
         latch,
         counts,
-        trace,
-        answers,
-        limit,
-    );
-    put_state(state, ran.state);
+    };
+    *taken = 0;
+    *done = 0;
+    if let Err(refusal) = m95::judged(device_of(device), &world) {
+        return refusal.number();
+    }
+    let ran = m95::run(device_of(device), &mut world, trace, answers, limit);
+    put_state(state, world.state);
     *taken = ran.taken;
     *done = ran.done;
-    ran.number
+    number_of(ran.ended)
 }

@@ -1,20 +1,23 @@
--- One step of each definition that a loop follows, and the start of a prepared identification page.
-use Prim.Native.Nat.{ℕ, suc, ◌+◌, ◌-◌, ◌*◌, ◌≤◌, ◌<◌}
-use mathlib.Core.Path.{◌≡◌, refl, sym, ap, ◌∙◌, subst}
-use mathlib.Core.Bool.{true, false}
-use mathlib.Core.List.{List, ◌∷◌, ◌++◌, append-nil}
+-- What library words find in a list, in the words of the rules; one step of each definition that a loop follows; and the room for ST's code.
+use Rattle.std.specs.Prelude.{Option, Some, None}
+use Prim.Native.Nat.{ℕ, zero, suc, ◌+◌, ◌-◌, ◌*◌, ◌≤◌, ◌<◌}
+use mathlib.Core.Path.{◌≡◌, refl, ap, ◌∙◌}
+use mathlib.Core.Bool.{Bool, true, false, not, cond}
+use mathlib.Core.List.{List}
 use native.Mathlib.Nat.{sub-zero}
 use native.Mathlib.Numerals.{add-one}
 use native.Mathlib.Omega.{arith}
-use lib.ListN.{get_or, set, take, drop, length, replicate, length-take, length-drop, length-replicate, drop_of_length-le}
-use lib.Seq.{drop-cons, take_all}
+use lib.ListN.{get_or, set, take, drop, length, length-take, length-drop}
 use lib.Dec.{eqb}
-use borrow.Author.Tests.{ne_eqb, le-leb, lt-leb}
+use borrow.Author.Tests.{ne_eqb}
+use Rattle.std.specs.List.{count_by, enumerate_from, zip}
+use Rattle.std.proofs.lemmas.List.{get_or-drop, get_or-take, get_or_default}
+use Rattle.std.proofs.lemmas.List.FromFn.{length-enumerate_from, get_or-enumerate_from}
+use Rattle.std.proofs.lemmas.List.Sums.{sum_by_more}
+use Rattle.std.proofs.lemmas.Slice.Zip.{length-zip, get_or-zip}
+use Rattle.rules.specs.World.{number}
 use Rattle.rules.specs.declared.Row.{Row}
-use Rattle.rules.specs.declared.Blank.{Blank}
 use Rattle.rules.specs.Device.{code}
-use Rattle.rules.specs.Receive.{cleared}
-use Rattle.rules.specs.Sound.{are_marks}
 use Rattle.rules.specs.Cycle.{written, filled, recounted}
 use Rattle.rules.specs.Call.{recounted_to, lowest, first_blank}
 
@@ -27,31 +30,56 @@ module _ (page : ℕ) (latch : List ℕ) (start : ℕ) (bytes : List ℕ) where
   unfolding written
   written-keep n h = rw (add-one n, ne_eqb _ _ h)
 
--- Counting one place more.
-module _ (cells : List ℕ) (a n : ℕ) where
-  pub filled_more : (get_or cells (a + n) 0 ≡ 0xFF → ⊥) → filled (n + 1) a cells ≡ filled n a cells + 1
-  unfolding filled
-  filled_more h = rw (add-one n, ne_eqb _ _ h)
+-- A latch's bytes, each with its mark and its place. The one at place n is the latch's n-th, and its mark stands a page further on.
+abbrev pub places : ℕ → List ℕ → List (ℕ × (ℕ × ℕ))
+places page latch = enumerate_from 0 (zip (take page latch) (drop page latch))
 
-  pub filled-kept : get_or cells (a + n) 0 ≡ 0xFF → filled (n + 1) a cells ≡ filled n a cells
-  unfolding filled
-  filled-kept h = rw (add-one n, h) (omega arith)
+pub place-at : (page : ℕ) (latch : List ℕ) (n i byte mark : ℕ) → length latch ≡ page + page
+    → (n < length (places page latch)) × ((i, (byte, mark)) ≡ get_or (places page latch) n (i, (byte, mark)))
+    → (i ≡ n) × (byte ≡ get_or latch n 0) × (mark ≡ get_or latch (page + n) 0)
+place-at page latch n i byte mark long h =
+    let bytes = take page latch in
+    let marks = drop page latch in
+    let within : n < length (zip bytes marks) = rw (length-enumerate_from 0 (zip bytes marks)) at h.0 in
+    let below : n < page = omega (arith, length-zip bytes marks, length-take page latch) in
+    let pair = get_or-zip bytes marks n (byte, mark) (simp length-take (omega arith)) (simp length-drop (omega arith)) in
+    let e = h.1 ∙ get_or-enumerate_from 0 (zip bytes marks) n (i, (byte, mark)) within in
+    let its_byte = ap (λ (p : ℕ × (ℕ × ℕ)). p.1.0) e ∙ ap (λ (p : ℕ × ℕ). p.0) pair in
+    let its_mark = ap (λ (p : ℕ × (ℕ × ℕ)). p.1.1) e ∙ ap (λ (p : ℕ × ℕ). p.1) pair in (
+      omega (arith, ap (λ (p : ℕ × (ℕ × ℕ)). p.0) e),
+      its_byte ∙ get_or-take page latch n byte below ∙ get_or_default latch n byte 0 (omega arith),
+      its_mark ∙ get_or-drop page latch n mark ∙ get_or_default latch (page + n) mark 0 (omega arith),
+    )
 
--- And one page more.
+-- The cells other than FFh in a list of n cells are as many as the rules count, who go from place to place.
+one_of : (b : Bool) → cond b 1 0 ≡ number b
+one_of true = refl
+one_of false = refl
+
+pub filled-counted : (n a : ℕ) (cells : List ℕ) → a + n ≤ length cells → count_by (λ x. not (eqb x 0xFF)) (take n (drop a cells)) ≡ filled n a cells
+unfolding filled
+filled-counted zero a cells h = refl
+filled-counted (suc n) a cells h =
+    let counts : ℕ → Bool = λ x. not (eqb x 0xFF) in
+    let more = sum_by_more (λ x. cond (counts x) 1 0) (drop a cells) n 0 (simp length-drop (omega arith)) in
+    rw (add-one n, get_or-drop a cells n 0, one_of (counts (get_or cells (a + n) 0))) at more
+    ∙ ap (λ k. k + number (counts (get_or cells (a + n) 0))) (filled-counted n a cells (omega arith))
+
+-- One page more.
 pub recounted-next : (n : ℕ) (row : Row) (cells counts : List ℕ) → recounted_to (n + 1) row cells counts ≡ recounted row (n * row.page) cells (recounted_to n row cells counts)
 unfolding recounted_to
 recounted-next n row cells counts = rw (add-one n)
 
 -- A search for the first count of 0, from page p on: behind the last page there is none; else it is this page, or a later one.
 module _ (counts : List ℕ) where
-  pub blank_from : ℕ → Blank
+  pub blank_from : ℕ → Option ℕ
   blank_from p = lowest (λ (q : ℕ). eqb (get_or counts q 0) 0) (length counts - p) p
 
   pub blank-start : blank_from 0 ≡ first_blank (length counts) counts
   unfolding blank_from
   blank-start = rw (sub-zero (length counts))
 
-  pub blank-end : (p : ℕ) → p ≡ length counts → blank_from p ≡ Blank.None
+  pub blank-end : (p : ℕ) → p ≡ length counts → blank_from p ≡ None
   unfolding blank_from lowest
   blank-end p e =
       let none : length counts - p ≡ 0 = omega arith in
@@ -61,7 +89,7 @@ module _ (counts : List ℕ) where
     left : length counts - p ≡ suc (length counts - (p + 1))
     left = omega arith
 
-    pub blank-here : get_or counts p 0 ≡ 0 → blank_from p ≡ Blank.Page p
+    pub blank-here : get_or counts p 0 ≡ 0 → blank_from p ≡ Some p
     unfolding blank_from lowest
     blank-here z = rw (left, z)
 
@@ -69,46 +97,6 @@ module _ (counts : List ℕ) where
     unfolding blank_from lowest
     blank-later f = rw (left, ne_eqb _ _ f, add-one p)
 
-module _ (marks : List ℕ) (n : ℕ) (h : n < length marks) where
-  pub mark-good : get_or marks n 0 ≤ 1 → are_marks (drop n marks) ≡ are_marks (drop (n + 1) marks)
-  mark-good g = rw (add-one n, drop-cons marks n 0 h, le-leb (get_or marks n 0) 1 g)
-
-  pub mark-bad : 1 < get_or marks n 0 → are_marks (drop n marks) ≡ false
-  mark-bad g = rw (drop-cons marks n 0 h, lt-leb (get_or marks n 0) 1 g)
-
--- ST's code, or none.
-three : (m : ℕ) → set {A = ℕ} (set (set (replicate (suc (suc (suc m))) 0xFF) 0 0x20) 1 0x00) 2 0x12 ≡ 0x20 ∷ 0x00 ∷ 0x12 ∷ replicate m 0xFF
-three m = refl
-
 -- Where there is a code it has three bytes, and a page that it fits into as many.
 pub code-room : (row : Row) {n : ℕ} → row.coded ≡ true → length (code row) ≤ n → 3 ≤ n
 code-room row e h = rw e at h
-
-pub with_code : (row : Row) (n : ℕ) → row.coded ≡ true → length (code row) ≤ n → set {A = ℕ} (set (set (replicate n 0xFF) 0 0x20) 1 0x00) 2 0x12 ≡ code row ++ replicate (n - length (code row)) 0xFF
-with_code row n e h =
-    let f : suc (suc (suc (n - 3))) ≡ n = omega (arith, code-room row e h) in
-    rw e (subst (λ (k : ℕ). set {A = ℕ} (set (set (replicate k 0xFF) 0 0x20) 1 0x00) 2 0x12 ≡ 0x20 ∷ 0x00 ∷ 0x12 ∷ replicate (n - 3) 0xFF) f (three (n - 3)))
-
-pub without-code : (row : Row) (n : ℕ) → row.coded ≡ false → replicate {A = ℕ} n 0xFF ≡ code row ++ replicate (n - length (code row)) 0xFF
-without-code row n e = rw e (ap (λ (k : ℕ). replicate {A = ℕ} k 0xFF) (sym (sub-zero n)))
-
-pub marks-end : (marks : List ℕ) (n : ℕ) → length marks ≤ n → are_marks (drop n marks) ≡ true
-marks-end marks n h = rw (drop_of_length-le marks h)
-
--- A list that is filled to its end is all that value.
-pub fill-all : (n v : ℕ) (d : List ℕ) → n ≡ length d → replicate n v ++ drop n d ≡ replicate (length d) v
-fill-all n v d e = rw (drop_of_length-le d {i = n} (omega arith), append-nil (replicate n v), e)
-
--- The second of two pages, filled with 0 and put back: the marks are cleared.
-pub part-cleared : (row : Row) (l : List ℕ) {ys : List ℕ} → length l ≡ row.page + row.page → ys ≡ replicate (length (take (length l - row.page) (drop row.page l))) 0
-    → take row.page l ++ (ys ++ drop (length l - row.page) (drop row.page l)) ≡ cleared row l
-part-cleared row l long e =
-    let k : length (take (length l - row.page) (drop row.page l)) ≡ row.page = simp (length-take, length-drop) (omega arith) in
-    rw (e, k, drop_of_length-le (drop row.page l) {i = length l - row.page} (simp length-drop (omega arith)), append-nil {A = ℕ} (replicate row.page 0))
-
--- All that is left of a list is the list.
-pub part-marks : (row : Row) (l : List ℕ) → take (length l - row.page) (drop row.page l) ≡ drop row.page l
-part-marks row l = take_all (length l - row.page) (drop row.page l) (simp length-drop (omega arith))
-
-pub length-fill : {l : List ℕ} (n : ℕ) → l ≡ replicate n 0xFF → length l ≡ n
-length-fill n e = ap length e ∙ length-replicate n 0xFF

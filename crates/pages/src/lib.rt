@@ -1,74 +1,52 @@
-// A page shown without copying: a part of one of the two lent slices, and its number. `m95` hands the call on as its own.
+// A page shown without copying: a part of one of the two lent slices. `m95` hands the call on as its own.
 
 #![tactic(auto)]
 
-ghost use Rattle.std.specs.Prelude.{◌-◌, ◌%◌, ◌<◌, ◌≡◌, length, take, drop};
-ghost use Rattle.rules.specs.Device.{Widths};
+ghost use Rattle.std.specs.Prelude.{◌-◌, ◌%◌, ◌<◌, ◌≡◌, [], length, take, drop, MatchResult};
 ghost use Rattle.rules.specs.Call.{is_past, shown_as, view_outcome};
+ghost use Rattle.rules.specs.Refused.{refusal_number};
 
 use lent::judging::memory_refused;
-use rules::{Region, Row};
+use rules::{Device, Refusal, Region, Row};
 
 // Whether an address lies past what a region has: past the last cell, and never for the identification page.
+#[tactic(auto, unfolding(rules::specs::Call::is_past))]
 fn is_past(row: Row, region: Region, address: usize) -> bool
     ensures { result ≡ is_past row region address }
 {
-    let past = row.cells <= address;
     match region {
-        Region::Cells => past,
+        Region::Cells => row.cells <= address,
         Region::Identification => false,
     }
 }
 
-// 1 to 3 for the two slices, whatever the region; then 13. 0 otherwise.
-fn view_refused(
-    device: u8,
-    region: Region,
-    cells: &[u8],
-    identification: &[u8],
-    address: usize,
-) -> usize
-    ensures { result ≡ (view_outcome device region cells.now identification.now address).number }
-{
-    let number = memory_refused(device, cells, identification);
-    if number != 0 {
-        return number;
-    }
-    if is_past(tables::row_of(device), region, address) {
-        return 13;
-    }
-    0
-}
-
 // The page of the cells that holds an address.
-fn page_at<'a>(row: Row, cells: &'a [u8], address: usize) -> &'a [u8]
-    requires { Widths row × (length cells.now ≡ row.cells) × (address < row.cells) }
-    ensures { result.now ≡ take row.page (drop (address - address % row.page) cells.now) }
+fn page_at<'a>(device: Device, cells: &'a [u8], address: usize) -> &'a [u8]
+    requires { (length cells.now ≡ device.row.cells) × (address < device.row.cells) }
+    ensures { result.now ≡ take device.row.page (drop (address - address % device.row.page) cells.now) }
 {
-    let page = row.page;
-    let start = address - bits::place(row, address);
-    let end = start + page;
-    &cells[start..end]
+    let start = address - bits::place(device, address);
+    &cells[start..start + device.row.page]
 }
 
-// A view of a region: a page of the cells or the identification page, and its number.
+// A view of a region: a page of the cells or the identification page. Refused with 1 to 3 for the two slices, whatever the region; then with 13.
+#[tactic(auto, unfolding(rules::specs::Call::view_outcome, rules::specs::Call::part_of, rules::specs::Call::is_past))]
 pub fn view<'a>(
     device: u8,
     region: Region,
     cells: &'a [u8],
     identification: &'a [u8],
     address: usize,
-    number: &mut usize,
-) -> &'a [u8]
-    ensures { shown_as number.new result.now ≡ view_outcome device region cells.now identification.now address }
+) -> Result<&'a [u8], Refusal>
+    ensures { MatchResult result (λ part. shown_as 0 part.now ≡ view_outcome device region cells.now identification.now address)
+        (λ e. shown_as (refusal_number e) [] ≡ view_outcome device region cells.now identification.now address) }
 {
-    let refused = view_refused(device, region, cells, identification, address);
-    *number = refused;
-    if refused != 0 {
-        return &cells[0..0];
+    let known = memory_refused(device, cells, identification)?;
+    if is_past(known.row, region, address) {
+        return Err(Refusal::Address);
     }
-    match region {
-        Region::Cells => page_at(tables::row_of(device), cells, address),
+    Ok(match region {
+        Region::Cells => page_at(known, cells, address),
         Region::Identification => identification,
-    }
+    })
 }

@@ -11,7 +11,7 @@
 mod words;
 
 use playthrough::room::ask_device;
-use playthrough::run::play_device;
+use playthrough::run::{Names, play_device};
 use playthrough::say::complain;
 use std::fs::OpenOptions;
 use std::os::fd::AsRawFd;
@@ -62,7 +62,13 @@ fn play<R: Files + Print, E: Print>(
         );
         return;
     }
-    play_device(rt, errors, device, chip, trace, answers, new);
+    let names = Names {
+        chip,
+        trace,
+        answers,
+        new,
+    };
+    play_device(rt, errors, device, names);
 }
 
 // Says where there is room on a chip, if the words are good.

@@ -1,11 +1,10 @@
 // The chip's stored contents in a file: the cells, the identification page, the status bits and the lock, one byte each.
 
 ghost use Rattle.std.specs.Prelude.{◌≡◌, length};
-ghost use Rattle.rules.specs.Device.{Widths};
 ghost use Rattle.rules.specs.Call.{stored_as};
 ghost use Rattle.player.specs.File.{said};
 
-use rules::{Row, Stored};
+use rules::{Device, Stored};
 use std::fs::OpenFile;
 use std::io::{Error, ErrorKind, Write};
 use std::rt::Files;
@@ -22,10 +21,10 @@ pub enum Fault {
 
 // Judges a file by its length. Its last two bytes are what it has stored.
 #[tactic(auto, unfolding(crate::specs::File::said))]
-fn judged(row: Row, length: usize, stored: Stored) -> Result<Stored, Fault>
-    requires { Widths row }
-    ensures { result ≡ said row length stored }
+fn judged(device: Device, length: usize, stored: Stored) -> Result<Stored, Fault>
+    ensures { result ≡ said device.row length stored }
 {
+    let row = device.row;
     if length == row.cells {
         Ok(PREPARED)
     } else if length == row.cells + row.identification + 2 {
@@ -37,12 +36,12 @@ fn judged(row: Row, length: usize, stored: Stored) -> Result<Stored, Fault>
 
 // Reads the cells, the identification page and the two last bytes, and looks for one byte more.
 fn read_said<S: std::io::Read>(
-    row: Row,
+    device: Device,
     file: &mut S,
     cells: &mut [u8],
     identification: &mut [u8],
 ) -> Result<Stored, Fault>
-    requires { (Widths row) × (length cells.old ≡ row.cells) × (length identification.old ≡ row.identification) }
+    requires { (length cells.old ≡ device.row.cells) × (length identification.old ≡ device.row.identification) }
 {
     let first = files::read_up(file, cells);
     let second = files::read_up(file, identification);
@@ -53,22 +52,22 @@ fn read_said<S: std::io::Read>(
     }
     let [status, lock, _] = tail;
     let length = first.count + second.count + third.count;
-    judged(row, length, Stored { status, lock })
+    judged(device, length, Stored { status, lock })
 }
 
 // The contents of the file at a path. Where there is none, a chip has stored what is given for that, if anything is.
 pub fn load<R: Files>(
     rt: &R,
-    row: Row,
+    device: Device,
     path: &[u8],
     missing: Option<Stored>,
     cells: &mut [u8],
     identification: &mut [u8],
 ) -> Result<Stored, Fault>
-    requires { (Widths row) × (length cells.old ≡ row.cells) × (length identification.old ≡ row.identification) }
+    requires { (length cells.old ≡ device.row.cells) × (length identification.old ≡ device.row.identification) }
 {
     match files::open_read(rt, path) {
-        Ok(mut file) => read_said(row, &mut file, cells, identification),
+        Ok(mut file) => read_said(device, &mut file, cells, identification),
         Err(error) => missing
             .filter(|_| error.kind() == ErrorKind::NotFound)
             .ok_or(Fault::Unread(error)),

@@ -1,12 +1,16 @@
 // A trace of any length, run in pieces. What a piece leaves of its last record is kept in front of the next, so that every record is
-// run whole, and 6 is given only where the trace really ends within a record.
+// run whole, and one is refused as cut short only where the trace really ends within it.
 
 ghost use Rattle.std.specs.Prelude.{◌≡◌, ◌-◌, ◌≤◌, length, take, drop, ◌≢◌};
-ghost use Rattle.rules.specs.World.{world_of};
-ghost use Rattle.player.specs.Playing.{Playable};
+ghost use Rattle.std.specs.ControlFlow.{MatchControlFlow};
+ghost use Rattle.rules.specs.Lending.{AreSame, world_in};
+ghost use Rattle.rules.specs.Refused.{number_of};
+ghost use Rattle.player.specs.Playing.{Playable, Standing};
 
-use rules::State;
+use rules::{Refusal, World};
 use std::io::{Error, Write};
+use std::ops::ControlFlow;
+use traces::records::Ran;
 
 // What went wrong with a run's files, and why: the trace cannot be read to its end, or the answers cannot be written.
 #[derive(Clone, Copy)]
@@ -15,30 +19,26 @@ pub enum Trouble {
     Unwritten(Error),
 }
 
-// Where a run stands: the number of its last record; what was done; the bytes in the buffer that are still to run; whether the run has
-// ended, and what went wrong, if anything did.
+// Where a run stands: how its last piece ended; the bytes in the buffer that are still to run; what was done; and what went wrong, if
+// anything did.
 #[derive(Clone, Copy)]
 pub struct Played {
-    pub number: usize,
+    pub ended: Result<(), Refusal>,
     pub filled: usize,
     pub records: u64,
     pub bytes: u64,
-    pub state: State,
-    pub ended: bool,
     pub trouble: Option<Trouble>,
 }
 
 // The start of a run, with so many bytes in the buffer.
-pub fn started(state: State, filled: usize) -> Played
-    ensures { (result.state ≡ state) × (result.filled ≡ filled) × (result.number ≡ 0) }
+pub fn started(filled: usize) -> Played
+    ensures { (result.filled ≡ filled) × (number_of result.ended ≡ 0) }
 {
     Played {
-        number: 0,
+        ended: Ok(()),
         filled,
         records: 0,
         bytes: 0,
-        state,
-        ended: false,
         trouble: None,
     }
 }
@@ -52,94 +52,81 @@ fn keep(buf: &mut [u8], from: usize, to: usize) -> usize
     to - from
 }
 
-// Runs what is in the buffer, writes the answers, and reads on. Limit and answer room are as many as there are bytes. The counts agree with
-// the cells, so that no record is refused for one.
+// Runs a piece. Limit and answer room are as many as there are bytes. The counts agree with the cells, so that no record is refused for one.
+fn run_piece(device: u8, world: &mut World, piece: &[u8], answers: &mut [u8]) -> Ran
+    requires playable { Playable device (world_in world.old) }
+    requires room { length piece.now ≤ length answers.old }
+    ensures same { AreSame world.new world.old }
+    ensures playable { Playable device (world_in world.new) }
+    ensures counted { (result.done ≤ length answers.new) × (result.taken ≤ length piece.now) × (number_of result.ended ≢ 15) }
+{
+    m95::run(device, world, piece, answers, piece.len())
+}
+
+// Runs what is in the buffer, writes the answers, and reads on. The run breaks off at a whole record that is refused, at the trace's end, and
+// where anything went wrong.
 fn play_piece<S: std::io::Read, W: Write>(
     device: u8,
     p: Played,
-    cells: &mut [u8],
-    identification: &mut [u8],
-    latch: &mut [u8],
-    counts: &mut [u16],
+    world: &mut World,
     buf: &mut [u8],
     answers: &mut [u8],
     trace: &mut S,
     output: &mut W,
-) -> Played
-    requires playable { Playable device (world_of p.state cells.old identification.old latch.old counts.old) }
-    requires filled_in_bounds { (p.filled ≤ length buf.old) × (length buf.old ≤ length answers.old) × (length buf.old ≤ 65536) }
-    ensures { (Playable device (world_of result.state cells.new identification.new latch.new counts.new))
-        × (result.filled ≤ length buf.new) × (result.number ≢ 15) }
+) -> ControlFlow<Played, Played>
+    requires playable { Playable device (world_in world.old) }
+    requires filled_in_bounds { (p.filled ≤ length buf.old) × (length buf.old ≤ length answers.old) }
+    ensures same { AreSame world.new world.old }
+    ensures playable { Playable device (world_in world.new) }
+    ensures counted { MatchControlFlow result (Standing (length buf.new)) (Standing (length buf.new)) }
 {
-    let ran = m95::run(
-        device,
-        p.state,
-        cells,
-        identification,
-        latch,
-        counts,
-        &buf[..p.filled],
-        answers,
-        p.filled,
-    );
+    let ran = run_piece(device, world, &buf[..p.filled], answers);
     let unwritten = output.write_all(&answers[..ran.done]).err();
     let left = keep(buf, ran.taken, p.filled);
     let after = Played {
-        number: ran.number,
+        ended: ran.ended,
         filled: left,
         records: p.records.wrapping_add(ran.done as u64),
         bytes: p.bytes.wrapping_add(ran.taken as u64),
-        state: ran.state,
-        ended: true,
         trouble: unwritten.map(Trouble::Unwritten),
     };
-    if after.trouble.is_some() || !matches!(ran.number, 0 | 6) {
-        return after;
+    if after.trouble.is_some() || !matches!(ran.ended, Ok(()) | Err(Refusal::Cut)) {
+        return ControlFlow::Break(after);
     }
     let read = files::read_up(trace, &mut buf[left..]);
-    Played {
+    let next = Played {
         filled: left + read.count,
-        ended: (read.count == 0) | read.error.is_some(),
         trouble: read.error.map(Trouble::Unread),
         ..after
+    };
+    if read.count == 0 || next.trouble.is_some() {
+        return ControlFlow::Break(next);
     }
+    ControlFlow::Continue(next)
 }
 
 // Runs piece after piece to the end. No run uses up the turns.
 pub fn play_all<S: std::io::Read, W: Write>(
     device: u8,
     start: Played,
-    cells: &mut [u8],
-    identification: &mut [u8],
-    latch: &mut [u8],
-    counts: &mut [u16],
+    world: &mut World,
     buf: &mut [u8],
     answers: &mut [u8],
     trace: &mut S,
     output: &mut W,
 ) -> Played
-    requires playable { (Playable device (world_of start.state cells.old identification.old latch.old counts.old)) × (start.number ≡ 0) }
-    requires filled_in_bounds { (start.filled ≤ length buf.old) × (length buf.old ≤ length answers.old) × (length buf.old ≤ 65536) }
-    ensures { (Playable device (world_of result.state cells.new identification.new latch.new counts.new))
-        × (result.number ≢ 15) }
+    requires playable { (Playable device (world_in world.old)) × (number_of start.ended ≡ 0) }
+    requires filled_in_bounds { (start.filled ≤ length buf.old) × (length buf.old ≤ length answers.old) }
+    ensures same { AreSame world.new world.old }
+    ensures playable { Playable device (world_in world.new) }
+    ensures counted { number_of result.ended ≢ 15 }
 {
     let mut p = start;
     for _ in 0..u64::MAX {
-        if p.ended {
-            break;
+        match play_piece(device, p, world, buf, answers, trace, output) {
+            ControlFlow::Continue(next) => p = next,
+            ControlFlow::Break(last) => return last,
         }
-        p = play_piece(
-            device,
-            p,
-            cells,
-            identification,
-            latch,
-            counts,
-            buf,
-            answers,
-            trace,
-            output,
-        );
     }
     p
 }

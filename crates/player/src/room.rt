@@ -6,21 +6,19 @@ ghost use Rattle.rules.specs.Call.{count_outcome};
 ghost use Rattle.text.specs.Put.{Put};
 ghost use Rattle.player.specs.Room.{page_text, TellsRoom};
 
-use rules::Blank;
-
 // A page's number, or that there is none, behind the word that stands in a lent text already: six bytes, and then twenty digits and the line's
 // end at most.
 #[tactic(auto, using(crate::proofs::Line::parts))]
-fn put_page(blank: Blank, out: &mut [u8], at: usize) -> usize
+fn put_page(blank: Option<usize>, out: &mut [u8], at: usize) -> usize
     requires { (at ≡ 6) × (length out.old ≡ 32) }
     ensures { Put out.old at (page_text blank) out.new result }
 {
     match blank {
-        Blank::Page(page) => {
+        Some(page) => {
             let numbered = text::put_decimal(page as u64, out, at);
             text::put(b"\n", out, numbered)
         }
-        Blank::None => text::put(b"none\n", out, at),
+        None => text::put(b"none\n", out, at),
     }
 }
 
@@ -31,8 +29,8 @@ pub fn put_room(device: u8, cells: &[u8], counts: &mut [u16], out: &mut [u8]) ->
     ensures prefix_len { IsPrefixLen result out.new }
     ensures tells_room { TellsRoom device cells.now (take result out.new) }
 {
-    m95::count_pages(device, cells, counts);
-    let found = m95::first_blank(device, counts);
+    let _ = m95::count_pages(device, cells, counts);
+    let blank = m95::first_blank(device, counts).unwrap_or(None);
     let named = text::put(b"blank ", out, 0);
-    put_page(found.blank, out, named)
+    put_page(blank, out, named)
 }

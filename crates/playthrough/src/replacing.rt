@@ -3,11 +3,12 @@
 use crate::say::fail;
 use player::contents;
 use player::pieces::Played;
+use rules::State;
 use std::rt::Files;
 
 // Whether a run left the chip as it was: its first record was refused.
 fn is_untouched(played: Played) -> bool {
-    (played.number != 0) & (played.records == 0)
+    played.ended.is_err() & (played.records == 0)
 }
 
 // Puts the chip's new contents into CHIP's place by way of NEW, open as `fresh`, and answers whether the run can be told. After any
@@ -17,6 +18,7 @@ pub fn replace<R: Files, E: Print>(
     errors: &E,
     played: Played,
     fresh: R::File,
+    state: State,
     cells: &[u8],
     identification: &[u8],
     new: &[u8],
@@ -26,7 +28,7 @@ pub fn replace<R: Files, E: Print>(
         let _ = files::remove(rt, new);
         return played.trouble.is_none();
     }
-    let stored = m95::stored(played.state);
+    let stored = m95::stored(state);
     let mut open = fresh;
     if let Err(error) = contents::store(&mut open, cells, identification, stored) {
         fail(

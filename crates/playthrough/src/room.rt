@@ -4,7 +4,7 @@ ghost use Rattle.std.specs.Prelude.{true, ◌≡◌, length};
 ghost use Rattle.rules.specs.Device.{is_device, row_of, page_count};
 ghost use Rattle.rules.specs.Call.{count_outcome};
 
-use crate::say::{complain, is_unstorable, tell_fault};
+use crate::say::{complain, tell_fault, tell_unstorable};
 use player::contents;
 use std::rt::Files;
 
@@ -21,6 +21,7 @@ fn tell_room<P: Print, E: Print>(out: &P, errors: &E, device: u8, cells: &[u8], 
 
 // Prints it for the chip in a file, in buffers of the device's lengths. Contents that a run would refuse are refused here too, and so is a file
 // that is not there: a name that was mistyped must not be answered with page 0 of a new chip.
+#[tactic(auto, using(crate::proofs::Loading::counting_taken))]
 fn ask_lent<R: Files + Print, E: Print>(
     rt: &R,
     errors: &E,
@@ -33,16 +34,16 @@ fn ask_lent<R: Files + Print, E: Print>(
     requires device_value { (is_device device ≡ true) × (length counts.old ≡ page_count (row_of device)) }
     requires cells_len { (length cells.old ≡ (row_of device).cells) × (length identification.old ≡ (row_of device).identification) }
 {
-    let row = tables::row_of(device);
-    let stored = match contents::load(rt, row, chip, None, cells, identification) {
+    let known = tables::device(device);
+    let stored = match contents::load(rt, known, chip, None, cells, identification) {
         Ok(stored) => stored,
         Err(fault) => {
             tell_fault(errors, fault, chip);
             return;
         }
     };
-    let loaded = m95::load(device, stored);
-    if is_unstorable(errors, loaded.number) {
+    if m95::load(device, stored).is_err() {
+        tell_unstorable(errors);
         return;
     }
     tell_room(rt, errors, device, cells, counts);
@@ -56,14 +57,15 @@ pub fn ask_device<R: Files + Print, E: Print>(rt: &R, errors: &E, device: u8, ch
     let mut cells = [0xFFu8; 262144];
     let mut identification = [0u8; 256];
     let mut counts = [0u16; 1024];
-    let row = tables::row_of(device);
+    let known = tables::device(device);
+    let row = known.row;
     ask_lent(
         rt,
         errors,
         device,
         &mut cells[..row.cells],
         &mut identification[..row.identification],
-        &mut counts[..tables::page_count(row)],
+        &mut counts[..tables::page_count(known)],
         chip,
     );
 }

@@ -2,19 +2,29 @@
 
 ghost use Rattle.std.specs.Prelude.{◌≤◌, ◌≡◌, length, true, IfSome};
 ghost use Rattle.io.specs.Counts.{IsPrefixLen};
-ghost use Rattle.rules.specs.World.{world_of};
+ghost use Rattle.rules.specs.Lending.{AreSame, world_in};
+ghost use Rattle.rules.specs.Refused.{number_of};
 ghost use Rattle.rules.specs.Device.{is_device};
 ghost use Rattle.rules.specs.Call.{lent_refusal};
 ghost use Rattle.player.specs.Playing.{Playable};
 
 use crate::replacing::replace;
-use crate::say::{fail, is_unstorable, tell, tell_fault, tell_kind_16};
+use crate::say::{fail, tell, tell_fault, tell_kind_16, tell_unstorable};
 use player::pieces::{Played, Trouble};
 use player::{contents, pieces};
-use rules::State;
+use rules::World;
 use std::fs::OpenFile;
 use std::io::Error;
 use std::rt::Files;
+
+// The names of a run's files: CHIP, TRACE, ANSWERS and NEW.
+#[derive(Clone, Copy)]
+pub struct Names<'a> {
+    pub chip: &'a [u8],
+    pub trace: &'a [u8],
+    pub answers: &'a [u8],
+    pub new: &'a [u8],
+}
 
 // Closes ANSWERS, and gives what is wrong with it then. std closes without a word; so a file is first brought to its medium, which tells
 // all that the closing would.
@@ -60,18 +70,16 @@ fn play_into<R: Files, E: Print>(
     errors: &E,
     device: u8,
     start: Played,
-    cells: &mut [u8],
-    identification: &mut [u8],
-    latch: &mut [u8],
-    counts: &mut [u16],
+    world: &mut World,
     buf: &mut [u8],
     input: &mut R::File,
     trace: &[u8],
     answers: &[u8],
 ) -> Played
-    requires playable { (Playable device (world_of start.state cells.old identification.old latch.old counts.old)) × (start.number ≡ 0) }
+    requires playable { (Playable device (world_in world.old)) × (number_of start.ended ≡ 0) }
     requires filled_in_bounds { (start.filled ≤ length buf.old) × (length buf.old ≡ 65536) }
-    ensures { Playable device (world_of result.state cells.new identification.new latch.new counts.new) }
+    ensures same { AreSame world.new world.old }
+    ensures playable { Playable device (world_in world.new) }
 {
     let mut room = io::large_buffer();
     let mut output = match files::open_overwrite(rt, answers) {
@@ -89,18 +97,7 @@ fn play_into<R: Files, E: Print>(
             };
         }
     };
-    let played = pieces::play_all(
-        device,
-        start,
-        cells,
-        identification,
-        latch,
-        counts,
-        buf,
-        &mut room,
-        input,
-        &mut output,
-    );
+    let played = pieces::play_all(device, start, world, buf, &mut room, input, &mut output);
     Played {
         trouble: finish(errors, played.trouble, output, trace, answers),
         ..played
@@ -116,11 +113,11 @@ fn begin<R: Files, E: Print>(
 ) -> Option<(R::File, usize)>
     ensures { IfSome result (λ begun. IsPrefixLen begun.1 buf.new) }
 {
-    let tell = |error| fail(errors, b"play: cannot read the trace ", trace, Some(error));
-    let mut input = files::open_read(rt, trace).map_err(tell).ok()?;
+    let unread = |error| fail(errors, b"play: cannot read the trace ", trace, Some(error));
+    let mut input = files::open_read(rt, trace).map_err(unread).ok()?;
     let read = files::read_up(&mut input, buf);
     if let Some(error) = read.error {
-        tell(error);
+        unread(error);
         return None;
     }
     Some((input, read.count))
@@ -131,132 +128,110 @@ fn play_loaded<R: Files + Print, E: Print>(
     rt: &R,
     errors: &E,
     device: u8,
-    state: State,
-    cells: &mut [u8],
-    identification: &mut [u8],
-    latch: &mut [u8],
-    counts: &mut [u16],
-    chip: &[u8],
-    trace: &[u8],
-    answers: &[u8],
-    new: &[u8],
+    world: &mut World,
+    names: Names<'_>,
 )
-    requires { Playable device (world_of state cells.old identification.old latch.old counts.old) }
+    requires { Playable device (world_in world.old) }
 {
     let mut buf = io::large_buffer();
-    let Some((mut input, count)) = begin(rt, errors, trace, &mut buf) else {
+    let Some((mut input, count)) = begin(rt, errors, names.trace, &mut buf) else {
         return;
     };
-    let fresh = match files::open_overwrite(rt, new) {
+    let fresh = match files::open_overwrite(rt, names.new) {
         Ok(fresh) => fresh,
         Err(error) => {
             fail(
                 errors,
                 b"play: cannot write the chip's new contents ",
-                new,
+                names.new,
                 Some(error),
             );
             return;
         }
     };
     tell_kind_16(errors, &buf[..count]);
-    let start = pieces::started(state, count);
+    let start = pieces::started(count);
     let played = play_into(
         rt,
         errors,
         device,
         start,
-        cells,
-        identification,
-        latch,
-        counts,
+        world,
         &mut buf,
         &mut input,
-        trace,
-        answers,
+        names.trace,
+        names.answers,
     );
-    if replace(rt, errors, played, fresh, cells, identification, new, chip) {
-        tell(rt, errors, played);
+    let state = world.state;
+    let cells = &mut *world.cells;
+    let identification = &mut *world.identification;
+    if replace(
+        rt,
+        errors,
+        played,
+        fresh,
+        state,
+        cells,
+        identification,
+        names.new,
+        names.chip,
+    ) {
+        tell(rt, errors, played, state);
     }
 }
 
-// Plays the trace in buffers of the device's lengths: a prepared chip, with what its file holds. No file has counts, so that the pages are
+// Plays the trace on a world of the device's lengths: a prepared chip, with what its file holds. No file has counts, so that the pages are
 // counted when it is read.
 fn play_lent<R: Files + Print, E: Print>(
     rt: &R,
     errors: &E,
     device: u8,
-    cells: &mut [u8],
-    identification: &mut [u8],
-    latch: &mut [u8],
-    counts: &mut [u16],
-    chip: &[u8],
-    trace: &[u8],
-    answers: &[u8],
-    new: &[u8],
+    world: &mut World,
+    names: Names<'_>,
 )
-    requires { lent_refusal device cells.old identification.old latch.old counts.old ≡ 0 }
+    requires { lent_refusal device world.old.cells.now world.old.identification.now world.old.latch.now world.old.counts.now ≡ 0 }
 {
-    m95::prepare(device, cells, identification, latch, counts);
-    let row = tables::row_of(device);
+    let cells = &mut *world.cells;
+    let identification = &mut *world.identification;
+    let latch = &mut *world.latch;
+    let counts = &mut *world.counts;
+    let _ = m95::prepare(device, cells, identification, latch, counts);
+    let known = tables::device(device);
     let prepared = Some(contents::PREPARED);
-    let stored = match contents::load(rt, row, chip, prepared, cells, identification) {
+    let loaded = contents::load(rt, known, names.chip, prepared, cells, identification);
+    let stored = match loaded {
         Ok(stored) => stored,
         Err(fault) => {
-            tell_fault(errors, fault, chip);
+            tell_fault(errors, fault, names.chip);
             return;
         }
     };
-    let loaded = m95::load(device, stored);
-    if is_unstorable(errors, loaded.number) {
+    let Ok(state) = m95::load(device, stored) else {
+        tell_unstorable(errors);
         return;
-    }
-    m95::count_pages(device, cells, counts);
-    play_loaded(
-        rt,
-        errors,
-        device,
-        loaded.state,
-        cells,
-        identification,
-        latch,
-        counts,
-        chip,
-        trace,
-        answers,
-        new,
-    );
+    };
+    world.state = state;
+    let _ = m95::count_pages(device, cells, counts);
+    play_loaded(rt, errors, device, world, names);
 }
 
 // Plays the trace on a device, in as much of the room as it has cells and pages.
 #[tactic(auto, using(rules::proofs::Widths::room))]
-pub fn play_device<R: Files + Print, E: Print>(
-    rt: &R,
-    errors: &E,
-    device: u8,
-    chip: &[u8],
-    trace: &[u8],
-    answers: &[u8],
-    new: &[u8],
-)
+pub fn play_device<R: Files + Print, E: Print>(rt: &R, errors: &E, device: u8, names: Names<'_>)
     requires { is_device device ≡ true }
 {
     let mut cells = [0xFFu8; 262144];
     let mut identification = [0u8; 256];
     let mut latch = [0u8; 512];
     let mut counts = [0u16; 1024];
-    let row = tables::row_of(device);
-    play_lent(
-        rt,
-        errors,
-        device,
-        &mut cells[..row.cells],
-        &mut identification[..row.identification],
-        &mut latch[..row.page + row.page],
-        &mut counts[..tables::page_count(row)],
-        chip,
-        trace,
-        answers,
-        new,
-    );
+    let known = tables::device(device);
+    let row = known.row;
+    let mut world = World {
+        state: m95::prepared_state(),
+        cells: &mut cells[..row.cells],
+        identification: &mut identification[..row.identification],
+        latch: &mut latch[..row.page + row.page],
+        counts: &mut counts[..tables::page_count(known)],
+    };
+    play_lent(rt, errors, device, &mut world, names);
 }

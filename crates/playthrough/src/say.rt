@@ -1,11 +1,12 @@
 // What play says: one line on standard error for what is wrong, and the last line on standard output.
 
-ghost use Rattle.std.specs.Prelude.{◌<◌, not, ◌≡◌, eqb};
+ghost use Rattle.std.specs.Prelude.{◌<◌};
 ghost use Rattle.rules.specs.Send.{status_byte};
 
 use player::contents::Fault;
 use player::pieces::Played;
 use player::summary;
+use rules::{State, number_of};
 use std::io::Error;
 use traces::trace::two_at;
 
@@ -21,7 +22,7 @@ pub fn fail<E: Print>(errors: &E, what: &[u8], path: &[u8], error: Option<Error>
 }
 
 // A line for what is wrong with a chip's file.
-pub fn tell_fault<E: Print>(errors: &E, fault: Fault, path: &[u8]) {
+pub(crate) fn tell_fault<E: Print>(errors: &E, fault: Fault, path: &[u8]) {
     match fault {
         Fault::Unread(error) => {
             fail(errors, b"play: cannot read the chip ", path, Some(error));
@@ -43,18 +44,12 @@ pub fn tell_fault<E: Print>(errors: &E, fault: Fault, path: &[u8]) {
     }
 }
 
-// A line for what a chip's file has stored and its device cannot, and whether there was one.
-pub fn is_unstorable<E: Print>(errors: &E, number: usize) -> bool
-    ensures { result ≡ not (eqb number 0) }
-{
-    if number == 0 {
-        return false;
-    }
+// A line for what a chip's file has stored and its device cannot.
+pub(crate) fn tell_unstorable<E: Print>(errors: &E) {
     complain(
         errors,
         b"play: CHIP's last two bytes: its status byte has bits that the device has not, or its lock byte is neither 0 nor, where the device has an identification page, 1\n",
     );
-    true
 }
 
 // A line where a trace begins with a record of kind 16, which names the device for the bench and belongs to no trace.
@@ -68,13 +63,13 @@ pub fn tell_kind_16<E: Print>(errors: &E, trace: &[u8]) {
 }
 
 // Prints the last line.
-pub fn tell<P: Print, E: Print>(out: &P, errors: &E, played: Played)
-    requires { status_byte played.state < 256 }
+pub fn tell<P: Print, E: Print>(out: &P, errors: &E, played: Played, state: State)
+    requires { status_byte state < 256 }
 {
     let mut line = [0u8; 128];
-    let status = m95::status_byte(played.state);
+    let status = m95::status_byte(state);
     let length = summary::put_summary(
-        played.number,
+        number_of(played.ended),
         status,
         played.records,
         played.bytes,

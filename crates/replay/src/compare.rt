@@ -4,6 +4,7 @@ ghost use Rattle.std.specs.Prelude.{◌≡◌, ◌≤◌, length};
 
 use crate::vector;
 use crate::vector::{Header, Vector};
+use rules::{State, World, number_of};
 use std::ops::Add;
 use traces::records::Ran;
 
@@ -53,55 +54,41 @@ fn is_left(named: &[u8], memory: &mut [u8], prepared: &[u8]) -> bool
 }
 
 // Whether a run ended as a vector says: its number and counts, the status and the lock.
-fn is_ended(ran: Ran, h: Header) -> bool {
-    let status = m95::status_byte(ran.state);
-    let is_counted = (ran.number == h.number) & (ran.done == h.done) & (ran.taken == h.taken);
-    is_counted & (status == h.status) & (ran.state.registers.locked == h.locked)
+fn is_ended(ran: Ran, state: State, h: Header) -> bool {
+    let is_counted = (number_of(ran.ended) == h.number)
+        & (ran.done == h.done)
+        & (ran.taken == h.taken);
+    is_counted & (m95::status_byte(state) == h.status) & (state.registers.locked == h.locked)
 }
 
-// Runs a vector's trace on a prepared device.
-fn run_trace(
-    vector: Vector<'_>,
-    cells: &mut [u8],
-    identification: &mut [u8],
-    latch: &mut [u8],
-    counts: &mut [u16],
-    answers: &mut [u8],
-) -> Ran {
-    let device = vector.header.device;
-    let ready = m95::prepare(device, cells, identification, latch, counts);
-    m95::run(
-        device,
-        ready.state,
-        cells,
-        identification,
-        latch,
-        counts,
-        vector.trace,
-        answers,
-        vector.trace.len(),
-    )
-}
-
-// Whether a vector's run ends as it says, with its answers and its contents.
+// Whether the run of a vector's trace on a freshly prepared device ends as the vector says, with its answers and its contents. What the
+// device had before the run is kept in `blank` and `factory`.
 fn is_good(
     vector: Vector<'_>,
-    cells: &mut [u8],
-    identification: &mut [u8],
-    latch: &mut [u8],
-    counts: &mut [u16],
+    world: &mut World,
+    answers: &mut [u8],
     blank: &mut [u8],
     factory: &mut [u8],
-    answers: &mut [u8],
 ) -> bool
-    requires { (length cells.old ≡ length blank.old) × (length identification.old ≡ length factory.old) }
+    requires long { (length world.old.cells.now ≡ length blank.old) × (length world.old.identification.now ≡ length factory.old) }
+    requires enough { length vector.trace.now ≤ length answers.old }
 {
-    m95::prepare(vector.header.device, blank, factory, latch, counts);
-    let ran = run_trace(vector, cells, identification, latch, counts, answers);
-    is_ended(ran, vector.header)
-        && answers.starts_with(vector.answers)
-        && is_left(vector.cells, cells, blank)
-        && is_left(vector.page, identification, factory)
+    let device = vector.header.device;
+    let cells = &mut *world.cells;
+    let identification = &mut *world.identification;
+    let latch = &mut *world.latch;
+    let counts = &mut *world.counts;
+    let ready = m95::prepare(device, cells, identification, latch, counts);
+    blank.copy_from_slice(cells);
+    factory.copy_from_slice(identification);
+    world.state = ready.unwrap_or(m95::prepared_state());
+    let ran = m95::run(device, world, vector.trace, answers, vector.trace.len());
+    let are_cells = is_left(vector.cells, world.cells, blank);
+    let is_page = is_left(vector.page, world.identification, factory);
+    is_ended(ran, world.state, vector.header)
+        & answers.starts_with(vector.answers)
+        & are_cells
+        & is_page
 }
 
 // Whether a vector is good, in as much of the room as its device has cells and pages.
@@ -116,16 +103,21 @@ fn is_good_here(vector: Vector<'_>) -> bool
     let mut blank = [0u8; 262144];
     let mut factory = [0u8; 256];
     let mut answers = [0u8; 131072];
-    let row = tables::row_of(vector.header.device);
+    let device = tables::device(vector.header.device);
+    let row = device.row;
+    let mut world = World {
+        state: m95::prepared_state(),
+        cells: &mut cells[..row.cells],
+        identification: &mut identification[..row.identification],
+        latch: &mut latch[..row.page + row.page],
+        counts: &mut counts[..tables::page_count(device)],
+    };
     is_good(
         vector,
-        &mut cells[..row.cells],
-        &mut identification[..row.identification],
-        &mut latch[..row.page + row.page],
-        &mut counts[..tables::page_count(row)],
+        &mut world,
+        &mut answers[..vector.trace.len()],
         &mut blank[..row.cells],
         &mut factory[..row.identification],
-        &mut answers[..vector.trace.len()],
     )
 }
 

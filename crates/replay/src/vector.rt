@@ -29,7 +29,7 @@ pub struct Vector<'a> {
 }
 
 // Four bytes as a number, the least significant first.
-pub fn number(bytes: [u8; 4]) -> usize
+pub(crate) fn number(bytes: [u8; 4]) -> usize
     ensures { result < 4294967296 }
 {
     u32::from_le_bytes(bytes) as usize
@@ -39,21 +39,23 @@ pub fn number(bytes: [u8; 4]) -> usize
 fn header_of(bytes: &[u8; 24]) -> Header
     ensures { Short result }
 {
+    let fields = bytes.as_chunks::<4>().0;
+    let [device, ended, status, locked] = fields[0];
     Header {
-        device: bytes[0],
-        number: usize::from(bytes[1]),
-        status: usize::from(bytes[2]),
-        locked: bytes[3] == 1,
-        trace: number([bytes[4], bytes[5], bytes[6], bytes[7]]),
-        done: number([bytes[8], bytes[9], bytes[10], bytes[11]]),
-        taken: number([bytes[12], bytes[13], bytes[14], bytes[15]]),
-        cells: number([bytes[16], bytes[17], bytes[18], bytes[19]]),
-        page: number([bytes[20], bytes[21], bytes[22], bytes[23]]),
+        device,
+        number: usize::from(ended),
+        status: usize::from(status),
+        locked: locked == 1,
+        trace: number(fields[1]),
+        done: number(fields[2]),
+        taken: number(fields[3]),
+        cells: number(fields[4]),
+        page: number(fields[5]),
     }
 }
 
 // The vector at the start of some bytes, and what is behind it, where they have a whole one.
-pub fn split(bytes: &[u8]) -> Option<(Vector<'_>, &[u8])>
+pub(crate) fn split(bytes: &[u8]) -> Option<(Vector<'_>, &[u8])>
     ensures { IfSome result (λ found. (size_of found.0.header + length found.1.now ≡ length bytes.now) × (length found.0.trace.now ≡ found.0.header.trace)) }
 {
     let (head, rest) = bytes.split_first_chunk::<24>()?;

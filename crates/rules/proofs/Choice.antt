@@ -52,6 +52,11 @@ pub and_both : (a b : Bool) → a ≡ true → b ≡ true → (a && b) ≡ true
 and_both true b e f = f
 and_both false b e f = clash (sym e)
 
+-- The same between facts that stand in a row.
+infixr 20 ◌also◌
+pub ◌also◌ : {a b : Bool} → a ≡ true → b ≡ true → (a && b) ≡ true
+◌also◌ {a} {b} e f = and_both a b e f
+
 -- What holds by both holds where the second is a weaker one.
 pub and_then : (a b c : Bool) → (b ≡ true → c ≡ true) → (a && b) ≡ true → (a && c) ≡ true
 and_then a b c f e = and_both a c (and_left a b e) (f (and_right a b e))
@@ -91,6 +96,10 @@ or-both a b c d f g = or_elim a b (λ e. or_left c d (f e)) (λ e. or_right c d 
 pub implied : (a b : Bool) → (a implies b) ≡ true → a ≡ true → b ≡ true
 implied true b e f = e
 implied false b e f = clash (sym f)
+
+pub implying : (a b : Bool) → (a ≡ true → b ≡ true) → (a implies b) ≡ true
+implying true b f = f refl
+implying false b f = refl
 
 -- A list of tests that all hold is a fact for each, and the other way round.
 abbrev pub Hold : List Bool → Type 0

@@ -10,6 +10,7 @@ pub mod RunLines
 pub mod BlankLines
 pub mod ViewLines
 pub mod Refusals
+pub mod Numbers
 pub mod Unsound
 pub mod Printed
 pub mod Choice

@@ -10,7 +10,7 @@ use native.Mathlib.Omega.{arith}
 use lib.ListN.{length, get_or}
 use lib.Dec.{eqb}
 use borrow.Author.Tests.{eqb-true, eqb-false, not-false}
-use Rattle.rules.specs.World.{Blank}
+use Rattle.rules.specs.World.{Option, Some, None}
 use Rattle.rules.specs.Device.{is_device, row_of, page_count}
 use Rattle.rules.specs.Call.{recounted_to, count_outcome, lowest, first_blank, found_as, blank_outcome}
 use Rattle.rules.specs.Room.{Lowest, Answers, FirstBlankSays, BlankNumbers, BlankStops, IsBlank, BlankAsRead, CountedAsRead}
@@ -20,22 +20,22 @@ use Rattle.rules.proofs.Filled.{filled-says}
 
 module _ (Holds : ℕ → Type 0) where
   -- Two answers that both name the lowest number are one.
-  one-lowest : (n : ℕ) (a b : Blank) → Lowest Holds n a → Lowest Holds n b → a ≡ b
-  one-lowest n (Blank.Page p) (Blank.Page q) h k =
+  one-lowest : (n : ℕ) (a b : Option ℕ) → Lowest Holds n a → Lowest Holds n b → a ≡ b
+  one-lowest n (Some p) (Some q) h k =
       let above : p < q → ⊥ = λ u. k.2 p u h.1 in
       let below : q < p → ⊥ = λ u. h.2 q u k.1 in
-      ap Blank.Page (omega arith)
-  one-lowest n (Blank.Page p) Blank.None h k = absurd (k p h.0 h.1)
-  one-lowest n Blank.None (Blank.Page q) h k = absurd (h q k.0 k.1)
-  one-lowest n Blank.None Blank.None h k = refl
+      ap Some (omega arith)
+  one-lowest n (Some p) None h k = absurd (k p h.0 h.1)
+  one-lowest n None (Some q) h k = absurd (h q k.0 k.1)
+  one-lowest n None None h k = refl
 
   -- The lowest of the n numbers from p on.
-  LowestFrom : ℕ → ℕ → Blank → Type 0
-  LowestFrom n p (Blank.Page k) = (p ≤ k) × (k < p + n) × Holds k × ((q : ℕ) → p ≤ q → q < k → Holds q → ⊥)
-  LowestFrom n p Blank.None = (q : ℕ) → p ≤ q → q < p + n → Holds q → ⊥
+  LowestFrom : ℕ → ℕ → Option ℕ → Type 0
+  LowestFrom n p (Some k) = (p ≤ k) × (k < p + n) × Holds k × ((q : ℕ) → p ≤ q → q < k → Holds q → ⊥)
+  LowestFrom n p None = (q : ℕ) → p ≤ q → q < p + n → Holds q → ⊥
 
   -- One number more in front, of which it does not hold.
-  past : (n p : ℕ) (b : Blank) → (Holds p → ⊥) → LowestFrom n (suc p) b → LowestFrom (suc n) p b
+  past : (n p : ℕ) (b : Option ℕ) → (Holds p → ⊥) → LowestFrom n (suc p) b → LowestFrom (suc n) p b
   unfolding LowestFrom
   past n p b without = go b
     where
@@ -46,14 +46,14 @@ module _ (Holds : ℕ → Type 0) where
       each : (q : ℕ) → p ≤ q → (suc p ≤ q → Without q) → Without q
       each q low above = ⊎_elim (λ same. subst Without same without) above (eq-or-lt_of_le low)
 
-      go : (b : Blank) → LowestFrom n (suc p) b → LowestFrom (suc n) p b
-      go (Blank.Page k) h = (omega (arith, h.0), omega (arith, h.1), h.2, λ q low u. each q low (λ above. h.3 q above u))
-      go Blank.None h = λ q low u. each q low (λ above. h q above (omega arith))
+      go : (b : Option ℕ) → LowestFrom n (suc p) b → LowestFrom (suc n) p b
+      go (Some k) h = (omega (arith, h.0), omega (arith, h.1), h.2, λ q low u. each q low (λ above. h.3 q above u))
+      go None h = λ q low u. each q low (λ above. h q above (omega arith))
 
-  from-none : (n : ℕ) (b : Blank) → LowestFrom n 0 b → Lowest Holds n b
+  from-none : (n : ℕ) (b : Option ℕ) → LowestFrom n 0 b → Lowest Holds n b
   unfolding LowestFrom
-  from-none n (Blank.Page k) h = (omega (arith, h.1), h.2, λ q u. h.3 q (omega arith) u)
-  from-none n Blank.None h = λ q u. h q (omega arith) (omega arith)
+  from-none n (Some k) h = (omega (arith, h.1), h.2, λ q u. h.3 q (omega arith) u)
+  from-none n None h = λ q u. h q (omega arith) (omega arith)
 
   -- A search by a test that tells of each number whether it holds.
   module _ (test : ℕ → Bool) where
@@ -85,8 +85,8 @@ module _ (Holds : ℕ → Type 0) where
       let pages = page_count (row_of device) in
       let first = first_blank pages counts in
       let fits = eqb (length counts) pages in
-      let Exactly : Blank → Type 0 = λ (x : Blank). (b : Blank) → (x ≡ b → Lowest Holds pages b) × (Lowest Holds pages b → x ≡ b) in
-      let P : ℕ → Type 0 = λ (n : ℕ). n ≡ 0 → Exactly (if eqb n 0 then first else Blank.None) in
+      let Exactly : Option ℕ → Type 0 = λ (x : Option ℕ). (b : Option ℕ) → (x ≡ b → Lowest Holds pages b) × (Lowest Holds pages b → x ≡ b) in
+      let P : ℕ → Type 0 = λ (n : ℕ). n ≡ 0 → Exactly (if eqb n 0 then first else None) in
       if-elim P (not (is_device device)) (λ _ e. absurd (omega arith))
       (λ _. if-elim P (not fits) (λ _ e. absurd (omega arith))
       (λ long _ b.
@@ -99,25 +99,25 @@ first-blank-says device counts =
     answered (λ (p : ℕ). (p < length counts) × (get_or counts p 0 ≡ 0)) device counts (λ long q u. (λ e. (omega arith, e), λ h. h.1))
 
 pub blank-numbers : BlankNumbers
-blank-numbers (Blank.Page p) (Blank.Page q) e f = ap Blank.Page f
-blank-numbers (Blank.Page p) Blank.None e f = absurd (omega arith)
-blank-numbers Blank.None (Blank.Page q) e f = absurd (omega arith)
-blank-numbers Blank.None Blank.None e f = refl
+blank-numbers (Some p) (Some q) e f = ap Some f
+blank-numbers (Some p) None e f = absurd (omega arith)
+blank-numbers None (Some q) e f = absurd (omega arith)
+blank-numbers None None e f = refl
 
 -- Counts that are the same up to the page that is answered.
-same_first : (pages : ℕ) (xs ys : List ℕ) (p : ℕ) → ((q : ℕ) → q ≤ p → get_or ys q 0 ≡ get_or xs q 0) → first_blank pages xs ≡ Blank.Page p → first_blank pages ys ≡ Blank.Page p
+same_first : (pages : ℕ) (xs ys : List ℕ) (p : ℕ) → ((q : ℕ) → q ≤ p → get_or ys q 0 ≡ get_or xs q 0) → first_blank pages xs ≡ Some p → first_blank pages ys ≡ Some p
 unfolding ByCount
 same_first pages xs ys p same e =
-    let x : Lowest (λ (q : ℕ). get_or xs q 0 ≡ 0) pages (Blank.Page p) = subst (Lowest (λ (q : ℕ). get_or xs q 0 ≡ 0) pages) e (first-is-lowest _ pages xs (λ q u. (λ z. z, λ z. z))) in
-    one-lowest (λ (q : ℕ). get_or ys q 0 ≡ 0) pages (first_blank pages ys) (Blank.Page p) (first-is-lowest _ pages ys (λ q u. (λ z. z, λ z. z)))
+    let x : Lowest (λ (q : ℕ). get_or xs q 0 ≡ 0) pages (Some p) = subst (Lowest (λ (q : ℕ). get_or xs q 0 ≡ 0) pages) e (first-is-lowest _ pages xs (λ q u. (λ z. z, λ z. z))) in
+    one-lowest (λ (q : ℕ). get_or ys q 0 ≡ 0) pages (first_blank pages ys) (Some p) (first-is-lowest _ pages ys (λ q u. (λ z. z, λ z. z)))
     (x.0, same p (omega arith) ∙ x.1, λ q u z. x.2 q u (sym (same q (omega arith)) ∙ z))
 
 pub blank-stops : BlankStops
 unfolding blank_outcome
 blank-stops device xs ys p long same =
     let pages = page_count (row_of device) in
-    let shown : ℕ → List ℕ → Blank = λ n counts. if eqb n 0 then first_blank pages counts else Blank.None in
-    let P : ℕ → Type 0 = λ (n : ℕ). shown n xs ≡ Blank.Page p → found_as n (shown n ys) ≡ found_as n (shown n xs) in
+    let shown : ℕ → List ℕ → Option ℕ = λ n counts. if eqb n 0 then first_blank pages counts else None in
+    let P : ℕ → Type 0 = λ (n : ℕ). shown n xs ≡ Some p → found_as n (shown n ys) ≡ found_as n (shown n xs) in
     let taken : P 0 = λ e. ap (found_as 0) (same_first pages xs ys p same e ∙ sym e) in
     rw long (if-elim P (not (is_device device)) (λ _ e. refl) (λ _. if-elim P (not (eqb (length xs) pages)) (λ _ e. refl) (λ _. taken)))
 

@@ -13,14 +13,10 @@ use Rattle.rules.specs.World.{Row, Level, World}
 use Rattle.rules.specs.Device.{has_identification}
 use Rattle.rules.specs.Instruction.{facts, changes, busy}
 use Rattle.rules.specs.Judge.{storable}
-use Rattle.rules.specs.Sound.{◌implies◌, is_z, are_marks, of_page, clauses, is_sound, Sound, Reads}
-use Rattle.rules.proofs.Choice.{clash, and_left, and_right, and_both, or-rest, implied, each, all_of}
+use Rattle.rules.specs.Sound.{is_z, are_marks, of_page, clauses, is_sound, Sound, Reads}
+use Rattle.rules.proofs.Choice.{clash, and_left, and_right, and_both, or-rest, implied, implying, each, all_of}
 
 -- Tests that are no numbers'.
-implying : (a b : Bool) → (a ≡ true → b ≡ true) → (a implies b) ≡ true
-implying true b f = f refl
-implying false b f = refl
-
 z-true : (q : Level) → is_z q ≡ true → q ≡ Level.Z
 z-true Level.Low e = clash (sym e)
 z-true Level.High e = clash (sym e)

@@ -1,21 +1,21 @@
 -- Facts on address width and page size, over the width; and that every row of the device table has the widths that they ask for.
-use Rattle.std.specs.Prelude.{if◌then◌else◌}
 use Prim.Native.Nat.{ℕ, zero, suc, ◌+◌, ◌-◌, ◌*◌, ◌/◌, ◌%◌, ◌^◌, ◌≤◌, ◌<◌}
 use mathlib.Core.Path.{◌≡◌, refl, sym, ap, ◌∙◌, subst}
 use mathlib.Core.Bool.{Bool, true, false, not, ◌&&◌}
 use mathlib.Core.List.{List, [], ◌∷◌, map}
-use native.Mathlib.Nat.{mod-lt, mul-mod_left, div-add-mod', div-lt_iff_lt-mul, div-eq_of_eq-mul_left, div-eq_of_lt-le, mul-le-mul_right}
+use native.Mathlib.Nat.{mod-lt, mul-mod_left, div-add-mod', div-lt_iff_lt-mul, div-eq_of_eq-mul_left, div-eq_of_lt-le, mul-le-mul_right, mul-div_cancel, pow-suc, le_of_suc-le-suc}
 use native.Mathlib.Omega.{arith}
 use lib.Pow.{pow-lt, pow-add}
 use lib.Dec.{eqb, leb, ltb}
-use lib.ListN.{length, get_or}
-use borrow.Author.Tests.{eqb-true, leb-true, ltb-true}
+use lib.ListN.{get_or}
+use borrow.Author.Tests.{eqb-true, leb-true, ltb-true, eq-eqb, le-leb, lt-ltb}
 use Rattle.rules.specs.World.{Row}
-use Rattle.rules.specs.Device.{Widths, has_identification, has_a8, page_count, entries, first_protected, code, table, m95040, row_of}
+use Rattle.rules.specs.Device.{Widths, has_identification, page_count, entries, first_protected, table, m95040, row_of}
+use Rattle.rules.specs.Wide.{halvings, is_within, is_page_start, tests, is_wide}
 use Rattle.rules.specs.Instruction.{longer}
 use Rattle.rules.specs.Receive.{rolled}
-use Rattle.rules.specs.Sound.{◌implies◌, all}
-use Rattle.rules.proofs.Choice.{and_left, and_right, implied, each}
+use Rattle.rules.specs.Sound.{all}
+use Rattle.rules.proofs.Choice.{if_yes, and_left, and_right, implied, implying, each, ◌also◌}
 
 -- What a test finds of everything in a list, it finds of what is read from it; so a row more in the table asks for nothing here.
 pub read-test : {A : Type 0} (test : A → Bool) (xs : List A) → all (map test xs) ≡ true → (i : ℕ) (other : A) → test other ≡ true → test (get_or xs i other) ≡ true
@@ -27,46 +27,8 @@ read-test test (x ∷ xs) e (suc i) other h = read-test test xs (and_right (test
 entry_read : (row : Row) (test : ℕ → Bool) → all (map test (entries row)) ≡ true → (bp : ℕ) → test (first_protected row bp) ≡ true
 entry_read row test e bp = read-test test (entries row) e bp row.sheet.bp11 (each (map test (entries row)) e).1.1.1.0
 
--- How often a number can be halved: the exponent of a power of two, here at most 24.
-abbrev halvings : ℕ → ℕ → ℕ
-halvings zero n = 0
-halvings (suc most) n = if ltb 1 n then suc (halvings most (n / 2)) else 0
-
--- An address no further than the cells' end, and a page's start.
-abbrev is_within : Row → ℕ → Bool
-is_within row a = leb a row.cells
-
-abbrev is_page_start : Row → ℕ → Bool
-is_page_start row a = eqb (a % row.page) 0
-
--- The test of a row, a line for each fact of `Widths`.
-abbrev tests : Row → List Bool
-tests row =
-    let cell_bits = halvings 24 row.cells in
-    let page_bits = halvings 24 row.page in
-    eqb row.cells (2 ^ cell_bits)
-    ∷ eqb row.page (2 ^ page_bits)
-    ∷ ltb page_bits cell_bits
-    ∷ leb cell_bits 24
-    ∷ leb row.cells 16_777_216
-    ∷ leb 4 row.page
-    ∷ leb row.page 256
-    ∷ (has_identification row implies eqb row.identification row.page)
-    ∷ leb (length (code row)) row.identification
-    ∷ all (map (is_within row) (entries row))
-    ∷ all (map (is_page_start row) (entries row))
-    ∷ leb 1 row.width
-    ∷ leb row.width 3
-    ∷ leb row.cells (256 ^ row.width * (if has_a8 row then 2 else 1))
-    ∷ leb 1 row.time
-    ∷ ltb row.time (2 ^ 32)
-    ∷ []
-
-is_wide : Row → Bool
-is_wide row = all (tests row)
-
 -- A row that passes has the facts.
-widths : (row : Row) → is_wide row ≡ true → Widths row
+pub widths : (row : Row) → is_wide row ≡ true → Widths row
 unfolding is_wide
 widths row e =
     let h = each (tests row) e in
@@ -95,9 +57,47 @@ widths row e =
       soon = ltb-true _ _ address.1.1.1.1.0;
     }
 
-pub of-device : (n : ℕ) → Widths (row_of n)
+-- A power of two is halved as often as its exponent says.
+halvings-pow : (most k : ℕ) → k ≤ most → halvings most (2 ^ k) ≡ k
+halvings-pow zero k h = omega (arith, h)
+halvings-pow (suc most) zero h = refl
+halvings-pow (suc most) (suc k) h =
+    let half : 2 ^ suc k / 2 ≡ 2 ^ k = ap (λ (n : ℕ). n / 2) (pow-suc 2 k) ∙ mul-div_cancel (2 ^ k) (omega arith) in
+    if_yes (ltb 1 (2 ^ suc k)) (suc (halvings most (2 ^ suc k / 2))) 0 (lt-ltb 1 (2 ^ suc k) (pow-lt {i = 0} {j = suc k} (omega arith)))
+    ∙ ap suc (ap (halvings most) half ∙ halvings-pow most k (le_of_suc-le-suc h))
+
+-- The other way round, so that a function that takes a `Device` asks for nothing of its row but `Widths`.
+pub wide-of : {row : Row} → Widths row → is_wide row ≡ true
 unfolding is_wide
-of-device n = widths (row_of n) (read-test is_wide table refl (n - 1) m95040 refl)
+wide-of {row} v =
+    let cell_bits : halvings 24 row.cells ≡ v.cell_bits = ap (halvings 24) v.cells ∙ halvings-pow 24 v.cell_bits v.narrow in
+    let page_bits : halvings 24 row.page ≡ v.page_bits = ap (halvings 24) v.page ∙ halvings-pow 24 v.page_bits (omega (arith, v.smaller, v.narrow)) in
+    let within : (bp : ℕ) → is_within row (first_protected row bp) ≡ true = λ bp. le-leb _ _ (v.begins_within bp) in
+    let starts : (bp : ℕ) → is_page_start row (first_protected row bp) ≡ true = λ bp. eq-eqb _ _ (v.begins_page bp) in
+    eq-eqb row.cells (2 ^ halvings 24 row.cells) (v.cells ∙ ap (λ (n : ℕ). 2 ^ n) (sym cell_bits))
+    also eq-eqb row.page (2 ^ halvings 24 row.page) (v.page ∙ ap (λ (n : ℕ). 2 ^ n) (sym page_bits))
+    also lt-ltb (halvings 24 row.page) (halvings 24 row.cells) (omega (arith, cell_bits, page_bits, v.smaller))
+    also le-leb (halvings 24 row.cells) 24 (omega (arith, cell_bits, v.narrow))
+    also le-leb _ _ v.cells_most
+    also le-leb _ _ v.page_least
+    also le-leb _ _ v.page_most
+    also implying (has_identification row) (eqb row.identification row.page) (λ has. eq-eqb _ _ (v.whole has))
+    also le-leb _ _ v.code_fits
+    also (within 0 also within 1 also within 2 also within 3 also refl)
+    also (starts 0 also starts 1 also starts 2 also starts 3 also refl)
+    also le-leb _ _ v.one_byte
+    also le-leb _ _ v.three_bytes
+    also le-leb _ _ v.reach
+    also le-leb _ _ v.lasts
+    also lt-ltb _ _ v.soon
+    also refl
+
+pub table-wide : (n : ℕ) → is_wide (row_of n) ≡ true
+unfolding is_wide
+table-wide n = read-test is_wide table refl (n - 1) m95040 refl
+
+pub of-device : (n : ℕ) → Widths (row_of n)
+of-device n = widths (row_of n) (table-wide n)
 
 -- A row that was looked up.
 pub row-widths : (device : ℕ) (row : Row) → row ≡ row_of device → Widths row

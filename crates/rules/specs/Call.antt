@@ -1,7 +1,7 @@
 -- 01, "Numbers given back": the whole outcome of each public call, for every input. Refusals are read from top to bottom.
 use Rattle.std.specs.Prelude.{◌+◌, ◌*◌, ◌&&◌, ◌-◌, ◌%◌, if◌then◌else◌}
 use Rattle.rules.specs.World.{ℕ, zero, suc, Bool, false, ltb, get_or, not, List, [], take, drop, length, eqb, leb, number}
-use Rattle.rules.specs.World.{Row, Region, Blank, Event, Stored, State, World, world_of, with_stored}
+use Rattle.rules.specs.World.{Row, Region, Option, Some, None, Event, Stored, State, World, world_of, with_stored}
 use Rattle.rules.specs.Device.{is_device, row_of, has_identification, page_count, prepared_state, prepared}
 use Rattle.rules.specs.Judge.{storable}
 use Rattle.rules.specs.Cycle.{recounted}
@@ -72,28 +72,28 @@ count_outcome device cells counts =
 
 -- W-205, where there is room: the lowest page whose count is 0, or none. A search through n numbers from p on, which stops at the first that
 -- passes a test.
-unfoldable pub lowest : (ℕ → Bool) → ℕ → ℕ → Blank
-lowest test zero p = Blank.None
-lowest test (suc n) p = if test p then Blank.Page p else lowest test n (suc p)
+unfoldable pub lowest : (ℕ → Bool) → ℕ → ℕ → Option ℕ
+lowest test zero p = None
+lowest test (suc n) p = if test p then Some p else lowest test n (suc p)
 
-abbrev pub first_blank : ℕ → List ℕ → Blank
+abbrev pub first_blank : ℕ → List ℕ → Option ℕ
 first_blank pages counts = lowest (λ (p : ℕ). eqb (get_or counts p 0) 0) pages 0
 
 -- The answer in numbers: 1 and the page; 0 and 0 where there is none.
-abbrev pub found_number : Blank → ℕ
-found_number (Blank.Page p) = 1
-found_number Blank.None = 0
+abbrev pub found_number : Option ℕ → ℕ
+found_number (Some p) = 1
+found_number None = 0
 
-abbrev pub page_number : Blank → ℕ
-page_number (Blank.Page p) = p
-page_number Blank.None = 0
+abbrev pub page_number : Option ℕ → ℕ
+page_number (Some p) = p
+page_number None = 0
 
 -- It is asked of a device and its counts alone: 1, then 14. A refusal gives no page.
 pub record Found : Type 0 where
   pub number : ℕ
-  pub blank : Blank
+  pub blank : Option ℕ
 
-abbrev pub found_as : ℕ → Blank → Found
+abbrev pub found_as : ℕ → Option ℕ → Found
 found_as number blank = record { number = number; blank = blank }
 
 unfoldable pub blank_outcome : ℕ → List ℕ → Found
@@ -103,7 +103,7 @@ blank_outcome device counts =
     if not (is_device device) then 1
     else if not (eqb (length counts) pages) then 14
     else 0 in
-    found_as n (if eqb n 0 then first_blank pages counts else Blank.None)
+    found_as n (if eqb n 0 then first_blank pages counts else None)
 
 -- What a state has stored besides cells and identification page, and the state of a chip that has this stored and has just got its power.
 abbrev pub stored_as : ℕ → ℕ → Stored

@@ -8,8 +8,11 @@ pub mod Judge
 pub mod Cycle
 pub mod Event
 pub mod Sound
+pub mod Wide
 pub mod Trace
 pub mod Call
+pub mod Refused
+pub mod Lending
 pub mod Program
 pub mod Examples
 pub mod Readings

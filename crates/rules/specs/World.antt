@@ -1,6 +1,6 @@
 -- The words that every rule is written in: the world of one device, and setters that change one part of it and keep the rest.
 use Rattle.std.specs.Prelude.{◌/◌, ◌%◌, ◌^◌, ◌∷◌}
-pub use Rattle.std.specs.Prelude.{ℕ, zero, suc, min, Bool, true, false, not, List, [], map, get_or, set, take, drop, replicate, length, eqb, leb, ltb}
+pub use Rattle.std.specs.Prelude.{ℕ, zero, suc, min, Bool, true, false, not, Option, Some, None, List, [], map, get_or, set, take, drop, replicate, length, eqb, leb, ltb}
 pub use Rattle.rules.specs.declared.Sheet.{Sheet}
 pub use Rattle.rules.specs.declared.Row.{Row}
 pub use Rattle.rules.specs.declared.Instruction.{Instruction}
@@ -10,7 +10,6 @@ pub use Rattle.rules.specs.declared.Facts.{Facts}
 pub use Rattle.rules.specs.declared.Change.{Change}
 pub use Rattle.rules.specs.declared.Going.{Going}
 pub use Rattle.rules.specs.declared.Region.{Region}
-pub use Rattle.rules.specs.declared.Blank.{Blank}
 pub use Rattle.rules.specs.declared.Level.{Level}
 pub use Rattle.rules.specs.declared.Event.{Event}
 pub use Rattle.rules.specs.declared.Pins.{Pins}

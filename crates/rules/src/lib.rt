@@ -3,6 +3,18 @@
 
 #![tactic(auto)]
 
+ghost use Rattle.std.specs.Prelude.{◌≡◌};
+ghost use Rattle.rules.specs.Send.{level};
+ghost use Rattle.rules.specs.Trace.{answer_byte};
+
+mod device;
+mod refusal;
+mod world;
+
+pub use device::Device;
+pub use refusal::{Refusal, number_of};
+pub use world::World;
+
 // A line of the service sheet (document 02, W-203): the first protected address under each setting of BP1 and BP0. Under 00, which
 // protects nothing, it is the cell count.
 #[derive(Clone, Copy)]
@@ -104,19 +116,29 @@ pub enum Region {
     Identification,
 }
 
-// Where there is room (document 02, W-205): a blank page, by its number, or none.
-#[derive(Clone, Copy)]
-pub enum Blank {
-    Page(usize),
-    None,
-}
-
 // A level of the output Q.
-#[derive(Clone, Copy)]
+#[derive(Clone, Copy, PartialEq, Eq)]
 pub enum Level {
     Low,
     High,
     Z,
+}
+
+impl Level {
+    // The answer byte of a level: 0, 1, or 2 for Z.
+    pub fn byte(self) -> u8
+        ensures { result ≡ answer_byte self }
+    {
+        self as u8
+    }
+}
+
+impl From<bool> for Level {
+    ghost from_gives = { λ high q. q ≡ level high };
+
+    fn from(high: bool) -> Level {
+        if high { Level::High } else { Level::Low }
+    }
 }
 
 // One event at the pins, in time or of the power. No pin but these five can be written.

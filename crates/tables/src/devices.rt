@@ -1,9 +1,9 @@
 // The device table, a row for each device, and what a row says of its device.
 
 ghost use Rattle.std.specs.Prelude.{◌≡◌};
-ghost use Rattle.rules.specs.Device.{Widths, is_device, row_of, has_identification, page_count, has_a8, first_protected};
+ghost use Rattle.rules.specs.Device.{is_device, row_of, has_identification, page_count, has_a8, first_protected};
 
-use rules::{Row, Sheet};
+use rules::{Device, Row, Sheet};
 
 // The device table: a row each, under the names that the rules have for them.
 const M95040: Row = Row {
@@ -147,6 +147,15 @@ pub fn row_of(device: u8) -> Row
     }
 }
 
+// A device by its number, with its row.
+pub fn device(number: u8) -> Device
+    ensures { result.row ≡ row_of number }
+{
+    Device {
+        row: row_of(number),
+    }
+}
+
 // Whether the device has an identification page.
 pub fn has_identification(row: Row) -> bool
     ensures { result ≡ has_identification row }
@@ -155,11 +164,10 @@ pub fn has_identification(row: Row) -> bool
 }
 
 // How many pages the cells make, which is how many counts a device has.
-pub fn page_count(row: Row) -> usize
-    requires { Widths row }
-    ensures { result ≡ page_count row }
+pub fn page_count(device: Device) -> usize
+    ensures { result ≡ page_count device.row }
 {
-    row.cells / row.page
+    device.row.cells / device.row.page
 }
 
 // Whether bit 3 of READ's and WRITE's code is A8: one address byte cannot name every cell.

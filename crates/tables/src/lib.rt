@@ -7,5 +7,7 @@ mod devices;
 mod instructions;
 
 pub use cycles::changes;
-pub use devices::{first_protected, has_a8, has_identification, is_device, page_count, row_of};
+pub use devices::{
+    device, first_protected, has_a8, has_identification, is_device, page_count, row_of,
+};
 pub use instructions::{decode, facts};

@@ -1,45 +1,21 @@
 -- Reading a record, one law for each way through the rules.
 use Rattle.std.specs.Prelude.{if◌then◌else◌}
-use Prim.Native.Nat.{ℕ, zero, suc, ◌+◌, ◌-◌, ◌*◌, ◌/◌, ◌≤◌, ◌<◌}
+use Prim.Native.Nat.{ℕ, ◌+◌, ◌-◌, ◌*◌, ◌≤◌}
 use mathlib.Core.Path.{◌≡◌, refl, sym, ap, ◌∙◌}
 use mathlib.Core.Bool.{Bool, true, false, not}
 use mathlib.Core.List.{List, []}
 use native.Mathlib.Omega.{arith}
 use lib.ListN.{get_or, length}
 use lib.Dec.{eqb, leb, ltb}
-use borrow.Author.Tests.{eq-eqb, ne_eqb, lt-ltb, le-ltb}
+use borrow.Author.Tests.{eq-eqb, ne_eqb, le-ltb}
 use Rattle.rules.specs.declared.Row.{Row}
 use Rattle.rules.specs.declared.Event.{Event}
-use Rattle.rules.specs.World.{World, bit, world_of}
+use Rattle.rules.specs.World.{World, world_of}
 use Rattle.rules.specs.Device.{prepared_state}
 use Rattle.rules.specs.Event.{refusal}
 use Rattle.rules.specs.Trace.{two, length_of, pin_event, event_at, bad_pin, record_refusal}
 use Rattle.rules.proofs.Runs.{Ready, ready}
 use Rattle.traces.specs.Form.{form_refusal}
-
-pub length_none : (k : ℕ) → (k ≡ 1 → ⊥) → (k ≡ 2 → ⊥) → (k ≡ 3 → ⊥) → 0 ≡ length_of k
-length_none zero a b c = refl
-length_none (suc zero) a b c = absurd (a refl)
-length_none (suc (suc zero)) a b c = absurd (b refl)
-length_none (suc (suc (suc zero))) a b c = absurd (c refl)
-length_none (suc (suc (suc (suc k)))) a b c = refl
-
--- A pin byte.
-module _ (p : ℕ) {b : Bool} (eb : b ≡ bit p 0) where
-  pub pin-clock : p / 2 ≡ 0 → Event.Clock b ≡ pin_event p
-  pin-clock e = rw (e, eb)
-
-  pub pin-data : p / 2 ≡ 1 → Event.Data b ≡ pin_event p
-  pin-data e = rw (e, eb)
-
-  pub pin-select : p / 2 ≡ 2 → Event.Select b ≡ pin_event p
-  pin-select e = rw (e, eb)
-
-  pub pin-hold : p / 2 ≡ 3 → Event.Hold b ≡ pin_event p
-  pin-hold e = rw (e, eb)
-
-  pub pin-protect : (p / 2 ≡ 0 → ⊥) → (p / 2 ≡ 1 → ⊥) → (p / 2 ≡ 2 → ⊥) → (p / 2 ≡ 3 → ⊥) → Event.Protect b ≡ pin_event p
-  pin-protect f g h i = rw (ne_eqb (p / 2) 0 f, ne_eqb (p / 2) 1 g, ne_eqb (p / 2) 2 h, ne_eqb (p / 2) 3 i, eb)
 
 -- The event of a record.
 module _ (t : List ℕ) (at : ℕ) {kind : ℕ} (ek : kind ≡ two t (at + 2)) where
@@ -55,44 +31,16 @@ module _ (t : List ℕ) (at : ℕ) {kind : ℕ} (ek : kind ≡ two t (at + 2)) w
   unfolding event_at
   event-power f g = rw (← ek, ne_eqb kind 1 f, ne_eqb kind 2 g)
 
-pub pin-other : (t : List ℕ) (at : ℕ) {kind : ℕ} → (kind ≡ 1 → ⊥) → false ≡ bad_pin t at kind
-pin-other t at {kind} h = rw (ne_eqb kind 1 h)
-
 -- Why a record is refused by its form.
 module _ (t : List ℕ) (at : ℕ) (full : Bool) where
-  pub refused-head : length t - at < 4 → 6 ≡ form_refusal t at full
-  unfolding form_refusal
-  refused-head h = rw (lt-ltb (length t - at) 4 h)
-
   module _ {size kind right : ℕ} (es : size ≡ two t at) (ek : kind ≡ two t (at + 2)) (er : right ≡ length_of kind) (h4 : 4 ≤ length t - at) where
     right-at : length_of (two t (at + 2)) ≡ right
     right-at = sym (er ∙ ap length_of ek)
-
-    pub refused-kind : right ≡ 0 → 7 ≡ form_refusal t at full
-    unfolding form_refusal
-    refused-kind r = rw (le-ltb (length t - at) 4 h4, right-at, eq-eqb right 0 r)
-
-    pub refused-length : (right ≡ 0 → ⊥) → (size ≡ right → ⊥) → 8 ≡ form_refusal t at full
-    unfolding form_refusal
-    refused-length r z = rw (le-ltb (length t - at) 4 h4, right-at, ne_eqb right 0 r, ← es, ne_eqb size right z)
-
-    pub refused-body : (right ≡ 0 → ⊥) → size ≡ right → length t - at < 2 + right → 6 ≡ form_refusal t at full
-    unfolding form_refusal
-    refused-body r z l = rw (le-ltb (length t - at) 4 h4, right-at, ne_eqb right 0 r, ← es, z, eq-eqb right right refl, lt-ltb (length t - at) (2 + right) l)
 
     module _ (r : right ≡ 0 → ⊥) (z : size ≡ right) (l : 2 + right ≤ length t - at) {bad : Bool} (eb : bad ≡ bad_pin t at kind) where
       past : (n : ℕ) → (if bad then 9 else (if full then 10 else 0)) ≡ n → form_refusal t at full ≡ n
       unfolding form_refusal
       past n f = rw (le-ltb (length t - at) 4 h4, right-at, ne_eqb right 0 r, ← es, z, eq-eqb right right refl, le-ltb (length t - at) (2 + right) l, ← ek, ← eb) f
-
-      pub refused-pin : bad ≡ true → 9 ≡ form_refusal t at full
-      refused-pin h = sym (past 9 (rw h))
-
-      pub refused_full : bad ≡ false → full ≡ true → 10 ≡ form_refusal t at full
-      refused_full h f = sym (past 10 (rw (h, f)))
-
-      pub refused-not : bad ≡ false → full ≡ false → 0 ≡ form_refusal t at full
-      refused-not h f = sym (past 0 (rw (h, f)))
 
 -- A record is refused with what its form is; where that is nothing, with what its event is.
 form-first : (a b c d e f : Bool) (n : ℕ) →
@@ -139,9 +87,3 @@ pub formed : (row : Row) (t : List ℕ) (at : ℕ) (a : List ℕ) (n : ℕ) {r :
 formed row t at a n e z =
     let full = leb (length a) n in
     ready (sym (event-refused row t at full resting e {m = refusal row (event_at t at) resting} z refl refl) ∙ never-refused row (event_at t at))
-
-pub pin-first : (t : List ℕ) (at : ℕ) {kind : ℕ} → kind ≡ 1 → ltb 9 (get_or t (at + 4) 0) ≡ bad_pin t at kind
-pin-first t at h = rw h
-
-pub two-small : (t : List ℕ) (at : ℕ) {n : ℕ} → n ≡ two t at → ((i : ℕ) → get_or t i 0 < 256) → n < 65536
-two-small t at e h = omega (arith, e, h at, h (at + 1))

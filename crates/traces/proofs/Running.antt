@@ -1,12 +1,12 @@
 -- What holds at every turn of a run, and how one turn keeps it.
 use Rattle.std.specs.Prelude.{if◌then◌else◌}
-use Prim.Native.Nat.{ℕ, ◌+◌, ◌-◌, ◌/◌, ◌≤◌, ◌<◌}
+use Prim.Native.Nat.{ℕ, ◌+◌, ◌-◌, ◌≤◌, ◌<◌}
 use mathlib.Core.Path.{◌≡◌, refl, sym, ap, ◌∙◌, subst}
 use mathlib.Core.Bool.{Bool, true, false}
 use mathlib.Core.List.{List}
 use native.Mathlib.Omega.{arith}
-use lib.ListN.{length, get_or, set, length-set}
-use lib.Dec.{eqb, leb, ltb}
+use lib.ListN.{length, set, length-set}
+use lib.Dec.{leb, ltb}
 use borrow.Author.Tests.{ne_eqb, le-leb, lt-leb, ltb-true}
 use Rattle.rules.specs.declared.Row.{Row}
 use Rattle.rules.specs.declared.Event.{Event}
@@ -15,7 +15,6 @@ use Rattle.rules.specs.Device.{Widths}
 use Rattle.rules.specs.Sound.{Sound, Lent}
 use Rattle.rules.specs.Event.{step, next, answer, refusal}
 use Rattle.rules.specs.Trace.{two, pin_event, event_at, record_refusal, answer_byte, Progress, progress_of, turn, run}
-use Rattle.rules.proofs.Choice.{if-elim}
 use Rattle.rules.proofs.Preserved.{preserved}
 use Rattle.rules.proofs.Runs.{turn-refused, turn-does, run-stays, run-turn}
 use Rattle.traces.specs.Form.{form_refusal}
@@ -28,22 +27,6 @@ module _ (row : Row) (t : List ℕ) {at : ℕ} (n : ℕ) (w : World) (a : List �
   pub turn-ends : {size b : ℕ} {e : Event} {u : World} → record_refusal row t at (leb (length a) n) w ≡ 0 → size ≡ two t at → e ≡ event_at t at → u ≡ step row e w
       → b ≡ answer_byte (answer u.state) → {next done : ℕ} → next ≡ at + 2 + size → done ≡ n + 1 → progress_of 0 next done u (set a n b) ≡ turn row t (progress_of 0 at n w a)
   turn-ends r es ee eu eb en ed = rw (en, ed) (turn-does row t n w a h r es ee eu eb)
-
--- No event of a pin is refused.
-pin-taken : (row : Row) (p : ℕ) (w : World) → refusal row (pin_event p) w ≡ 0
-pin-taken row p w =
-    let P : Event → Type 0 = λ (e : Event). refusal row e w ≡ 0 in
-    if-elim P (eqb (p / 2) 0) (λ _. refl)
-    (λ _. if-elim P (eqb (p / 2) 1) (λ _. refl) (λ _. if-elim P (eqb (p / 2) 2) (λ _. refl) (λ _. if-elim P (eqb (p / 2) 3) (λ _. refl) (λ _. refl))))
-
-pub turn-pin : (row : Row) (t : List ℕ) {at : ℕ} (n : ℕ) (w : World) (a : List ℕ) → at < length t → {r kind size b past done : ℕ} {e : Event} {u : World}
-    → r ≡ form_refusal t at (leb (length a) n) → r ≡ 0 → kind ≡ two t (at + 2) → kind ≡ 1 → e ≡ event_at t at → u ≡ step row e w → size ≡ two t at
-    → b ≡ answer_byte (answer u.state) → past ≡ at + 2 + size → done ≡ n + 1 → progress_of 0 past done u (set a n b) ≡ turn row t (progress_of 0 at n w a)
-unfolding event_at
-turn-pin row t {at} n w a h er z ek one ee eu es eb en ed =
-    let pin : event_at t at ≡ pin_event (get_or t (at + 4) 0) = rw (← ek, one) in
-    let taken : refusal row (event_at t at) w ≡ 0 = ap (λ (x : Event). refusal row x w) pin ∙ pin-taken row (get_or t (at + 4) 0) w in
-    turn-ends row t n w a h (sym (event-refused row t at (leb (length a) n) w er z refl (sym taken))) es ee eu eb en ed
 
 -- The turn of a record that is good by its form, and whose event is tried: refused it stays where it was, with the world; done it goes on.
 module _ (row : Row) (t : List ℕ) {at : ℕ} (n : ℕ) (w : World) (a : List ℕ) (h : at < length t) {r m : ℕ} {e : Event} {u : World}

@@ -6,12 +6,11 @@ use mathlib.Core.Bool.{Bool, true, false, not, ◌&&◌, ◌||◌, and-false}
 use mathlib.Core.List.{List, []}
 use native.Mathlib.Omega.{arith}
 use lib.ListN.{get_or, length}
-use lib.Dec.{eqb, ltb}
-use borrow.Author.Tests.{eqb-true, eq-eqb, ne_eqb, le-ltb, not-true, not-false}
+use lib.Dec.{ltb}
+use borrow.Author.Tests.{eq-eqb, ne_eqb, le-ltb, not-true}
 use Rattle.rules.specs.declared.Row.{Row}
 use Rattle.rules.specs.declared.Selection.{Selection}
 use Rattle.rules.specs.declared.Input.{Input}
-use Rattle.rules.specs.declared.Source.{Source}
 use Rattle.rules.specs.declared.Output.{Output}
 use Rattle.rules.specs.declared.State.{State}
 use Rattle.rules.specs.declared.Event.{Event}
@@ -19,82 +18,15 @@ use Rattle.rules.specs.World.{World, number, with_pins, with_selection, with_sta
 use Rattle.rules.specs.Receive.{is_code, is_address, is_last, is_latched, address_after, latch_after, input_after, value, is_byte, risen, risen_latch}
 use Rattle.rules.specs.Send.{going, source_of, is_sending, shown_address, output_of, output_after, fallen}
 use Rattle.rules.specs.Event.{pins_after, decodes, react, step, refusal}
-use Rattle.rules.specs.Trace.{two, pin_event, event_at, record_refusal}
+use Rattle.rules.specs.Trace.{pin_event, event_at, record_refusal}
 use Rattle.rules.proofs.Choice.{if-elim, if_no, and_left, and_right, and_both, clash}
 use Rattle.chip.specs.Alone.{step_alone}
 use Rattle.traces.specs.declared.quick.Usual.{Usual}
-use Rattle.traces.specs.Quick.{IsPin, only_counts, RiseSorted, FallSorted, Sorted}
-
--- Sorting.
-pub pin-found : {t : List ℕ} {at a b : ℕ} → 5 ≤ length t - at → a ≡ two t at → b ≡ two t (at + 2) → (eqb a 3 && eqb b 1) ≡ true → IsPin t at (get_or t (at + 4) 0)
-pin-found {a = a} {b} h ea eb e =
-    record {
-      whole = h;
-      size = sym ea ∙ eqb-true a 3 (and_left (eqb a 3) (eqb b 1) e);
-      kind = sym eb ∙ eqb-true b 1 (and_right (eqb a 3) (eqb b 1) e);
-      byte = refl;
-    }
-
-pub pin-is : {t : List ℕ} {at n p : ℕ} → n ≡ p → p ≤ 9 → (n ≤ 9 → IsPin t at n) → IsPin t at p
-pin-is {t} {at} e h f = subst (IsPin t at) e (f (omega arith))
-
--- The pin byte of D is 2 or 3, by its level.
-pub data-byte : (b : ℕ) → (eqb b 2 || eqb b 3) ≡ true → b ≡ 2 + number (eqb b 3)
-data-byte b = by (eqb b 2) (eqb b 3) refl refl
-  where
-    by : (x y : Bool) → eqb b 2 ≡ x → eqb b 3 ≡ y → (x || y) ≡ true → b ≡ 2 + number y
-    by x true e f h = eqb-true b 3 f
-    by true false e f h = eqb-true b 2 e
-    by false false e f h = clash (sym h)
+use Rattle.traces.specs.Quick.{IsPin, only_counts, Sorted}
 
 pub data-small : (v : Bool) → 2 + number v ≤ 9
 data-small true = omega arith
 data-small false = omega arith
-
-module _ (row : Row) (s : State) {t : List ℕ} {at : ℕ} (room : Bool) (hr : not room ≡ false) where
-  pub sorted-fall : (r : Usual) → IsPin t at 0 → FallSorted row s r → Sorted row s t at room r
-  sorted-fall Usual.Other p h = tt
-  sorted-fall (Usual.Data v) p h = absurd h
-  sorted-fall Usual.Bit p h = absurd h
-  sorted-fall Usual.Still p h = (not-false room hr, p, h)
-  sorted-fall Usual.Shift p h = (not-false room hr, p, h)
-  sorted-fall Usual.Whole p h = absurd h
-
-  pub sorted-rise : (r : Usual) → IsPin t at 1 → RiseSorted row s r → Sorted row s t at room r
-  sorted-rise Usual.Other p h = tt
-  sorted-rise (Usual.Data v) p h = absurd h
-  sorted-rise Usual.Bit p h = (not-false room hr, p, h)
-  sorted-rise Usual.Still p h = absurd h
-  sorted-rise Usual.Shift p h = absurd h
-  sorted-rise Usual.Whole p h = (not-false room hr, p, h)
-
-  pub sorted-data : (v : Bool) → IsPin t at (2 + number v) → Sorted row s t at room (Usual.Data v)
-  sorted-data v p = (not-false room hr, p)
-
-module _ (row : Row) (s : State) {d : Bool} (ed : d ≡ decodes s) (h : not (d && not s.pins.c) ≡ false) where
-  decodes-at : decodes s ≡ true
-  decodes-at = sym ed ∙ and_left d (not s.pins.c) (not-false (d && not s.pins.c) h)
-
-  low-at : s.pins.c ≡ false
-  low-at = not-true s.pins.c (and_right d (not s.pins.c) (not-false (d && not s.pins.c) h))
-
-  pub rise-bit : (s.input.bits ≡ 7 → ⊥) → RiseSorted row s Usual.Bit
-  rise-bit z = (decodes-at, low-at, z)
-
-  pub rise-whole : {b : Bool} → b ≡ only_counts row s → s.input.bits ≡ 7 → not b ≡ false → RiseSorted row s Usual.Whole
-  rise-whole {b} eb z p = (decodes-at, low-at, z, sym eb ∙ not-false b p)
-
-module _ (row : Row) (s : State) {d sending : Bool} (ed : d ≡ decodes s) (es : sending ≡ is_sending row s) (hc : not s.pins.c ≡ false) where
-  both_at : (b : Bool) → (d && sending) ≡ b → (decodes s && is_sending row s) ≡ b
-  both_at b h = ap (λ (x : Bool). x && is_sending row s) (sym ed) ∙ ap (λ (x : Bool). d && x) (sym es) ∙ h
-
-  pub fall-still : not (d && sending) ≡ true → FallSorted row s Usual.Still
-  fall-still h = (not-false s.pins.c hc, both_at false (not-true (d && sending) h))
-
-  pub fall-shift : {x y : Source} → not (d && sending) ≡ false → (s.input.bits ≡ 0 → ⊥) → x ≡ source_of s → x ≡ y → (going row y s.place.address).past ≡ false
-      → FallSorted row s Usual.Shift
-  fall-shift h z ex ey p =
-      (not-false s.pins.c hc, both_at true (not-false (d && sending) h), z, ap (λ (u : Source). (going row u s.place.address).past) (sym ex ∙ ey) ∙ p)
 
 -- A byte that only counts is nothing else.
 counts-only : (row : Row) (s : State) → only_counts row s ≡ true → (is_code s ≡ false) × (is_last row s ≡ false) × (is_address row s ≡ false) × (is_latched row s ≡ false)
@@ -202,7 +134,8 @@ module _ (row : Row) (s : State) {r : State} {cells identification latch counts 
       let d = decodes s && not s.pins.c in
       let none = counts-only row s p in
       let kept : latch_after row (value s) s latch ≡ latch = rw (none.0, none.3) in
-      ap (λ (x : State). world_of x cells identification latch counts) e ∙ ap (λ (l : List ℕ). world_of (step_alone row (Event.Clock true) s) cells identification l counts) (sym (same (is_byte d s) kept))
+      ap (λ (x : State). world_of x cells identification latch counts) e
+      ∙ ap (λ (l : List ℕ). world_of (step_alone row (Event.Clock true) s) cells identification l counts) (sym (same (is_byte d s) kept))
     where
       same : (b : Bool) {x : List ℕ} → x ≡ latch → (if b then x else latch) ≡ latch
       same true h = h

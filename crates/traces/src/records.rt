@@ -1,118 +1,99 @@
 // Running a trace's records, on a device that is sound: `preserved` keeps it so, and it is judged once.
 
 ghost use Rattle.std.specs.Prelude.{◌≡◌};
-ghost use Rattle.rules.specs.World.{world_of};
-ghost use Rattle.rules.specs.Device.{Widths};
+ghost use Rattle.rules.specs.Lending.{AreSame, world_in};
+ghost use Rattle.rules.specs.Refused.{number_of};
 ghost use Rattle.rules.specs.Sound.{Sound, Lent};
 ghost use Rattle.rules.specs.Trace.{progress_of, run};
 
 use crate::quick::{Usual, quick_bit, quick_data, quick_shift, quick_still, quick_whole, sorted};
 use crate::trace::one;
 use chip::event::answer;
-use rules::{Row, State};
+use rules::{Device, Refusal, World};
 
-// What a run gives back: its number, the records done, the bytes taken, and the state.
+// How a run ended, the records done, and the bytes taken.
 #[derive(Clone, Copy)]
 pub struct Ran {
-    pub number: usize,
+    pub ended: Result<(), Refusal>,
     pub done: usize,
     pub taken: usize,
-    pub state: State,
 }
 
-// At most `limit` records. One state, changed in place; each short way has its own arm, and all else takes the one full turn.
+// At most `limit` records. The state is changed in a variable of its own, and stands in the world whenever that is handed on. Each short way has
+// its own arm and its own end, and all else takes the one full turn: one end for all the arms cost a tenth of the speed (docs/SPEED.md).
 pub fn run_records(
-    row: Row,
-    s: State,
-    cells: &mut [u8],
-    identification: &mut [u8],
-    latch: &mut [u8],
-    counts: &mut [u16],
+    device: Device,
+    world: &mut World,
     trace: &[u8],
     answers: &mut [u8],
     limit: usize,
 ) -> Ran
-    requires { (Widths row) × (Sound row (world_of s cells.old identification.old latch.old counts.old))
-        × (Lent row (world_of s cells.old identification.old latch.old counts.old)) }
-    ensures { progress_of result.number result.taken result.done (world_of result.state cells.new identification.new latch.new counts.new) answers.new
-        ≡ run limit row trace.now (progress_of 0 0 0 (world_of s cells.old identification.old latch.old counts.old) answers.old) }
+    requires sound { Sound device.row (world_in world.old) }
+    requires lent { Lent device.row (world_in world.old) }
+    ensures same { AreSame world.new world.old }
+    ensures run { progress_of (number_of result.ended) result.taken result.done (world_in world.new) answers.new
+        ≡ run limit device.row trace.now (progress_of 0 0 0 (world_in world.old) answers.old) }
 {
-    let mut t = s;
+    let mut t = world.state;
     let mut at: usize = 0;
     let mut n: usize = 0;
     while n < limit {
         if trace.len() <= at {
-            return Ran {
-                number: 0,
-                done: n,
-                taken: at,
-                state: t,
-            };
+            break;
         }
-        let way = sorted(row, t, trace, at, n < answers.len());
+        let way = sorted(device, t, trace, at, n < answers.len());
         match way {
             Usual::Other => {
-                let turn = one(
-                    row,
-                    t,
-                    cells,
-                    identification,
-                    latch,
-                    counts,
-                    trace,
-                    answers,
-                    at,
-                    n,
-                );
-                if turn.number != 0 {
-                    let u = turn.state;
-                    return Ran {
-                        number: turn.number,
-                        done: turn.done,
-                        taken: turn.taken,
-                        state: u,
-                    };
+                world.state = t;
+                match one(device, world, trace, answers, at, n) {
+                    Ok(next) => at = next,
+                    Err(refusal) => {
+                        return Ran {
+                            ended: Err(refusal),
+                            done: n,
+                            taken: at,
+                        };
+                    }
                 }
-                t = turn.state;
-                at = turn.taken;
-                n = turn.done;
+                t = world.state;
+                n += 1;
             }
             Usual::Data(high) => {
-                t = quick_data(row, t, high);
-                answers[n] = answer(t);
-                at = at + 5;
-                n = n + 1;
+                t = quick_data(device.row, t, high);
+                answers[n] = answer(t).byte();
+                at += 5;
+                n += 1;
             }
             Usual::Bit => {
-                t = quick_bit(row, t);
-                answers[n] = answer(t);
-                at = at + 5;
-                n = n + 1;
+                t = quick_bit(device.row, t);
+                answers[n] = answer(t).byte();
+                at += 5;
+                n += 1;
             }
             Usual::Still => {
-                t = quick_still(row, t);
-                answers[n] = answer(t);
-                at = at + 5;
-                n = n + 1;
+                t = quick_still(device.row, t);
+                answers[n] = answer(t).byte();
+                at += 5;
+                n += 1;
             }
             Usual::Shift => {
-                t = quick_shift(row, t);
-                answers[n] = answer(t);
-                at = at + 5;
-                n = n + 1;
+                t = quick_shift(device.row, t);
+                answers[n] = answer(t).byte();
+                at += 5;
+                n += 1;
             }
             Usual::Whole => {
-                t = quick_whole(row, t);
-                answers[n] = answer(t);
-                at = at + 5;
-                n = n + 1;
+                t = quick_whole(device.row, t);
+                answers[n] = answer(t).byte();
+                at += 5;
+                n += 1;
             }
         }
     }
+    world.state = t;
     Ran {
-        number: 0,
+        ended: Ok(()),
         done: n,
         taken: at,
-        state: t,
     }
 }

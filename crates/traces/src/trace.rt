@@ -1,13 +1,14 @@
 // Records: reading one, judging it, and doing it. `quick` has the short ways for the commonest ones.
 
-ghost use Rattle.std.specs.Prelude.{◌≡◌, false, ◌+◌, ◌≤◌, ◌<◌, length};
-ghost use Rattle.rules.specs.World.{world_of};
-ghost use Rattle.rules.specs.Device.{Widths};
+ghost use Rattle.std.specs.Prelude.{◌≡◌, ◌+◌, ◌≤◌, ◌<◌, length, IfOk};
+ghost use Rattle.rules.specs.Lending.{AreSame, world_in};
+ghost use Rattle.rules.specs.Refused.{number_of};
 ghost use Rattle.rules.specs.Sound.{Sound, Lent};
-ghost use Rattle.traces.specs.Form.{form_refusal};
 ghost use Rattle.rules.specs.Trace.{two, length_of, pin_event, event_at, bad_pin, progress_of, turn};
+ghost use Rattle.traces.specs.Form.{kind_number, IsKind, form_refusal, place_after, count_after};
 
-use rules::{Event, Row, State};
+use chip::event::{answer, take};
+use rules::{Device, Event, Refusal, World};
 
 // Two bytes at a place, the least significant first.
 pub fn two_at(trace: &[u8], at: usize) -> usize
@@ -17,15 +18,38 @@ pub fn two_at(trace: &[u8], at: usize) -> usize
     bits::two(trace[at], trace[at + 1])
 }
 
-// The length of a kind, or 0 where there is no such kind.
-pub fn length_of(kind: usize) -> usize
-    ensures { result ≡ length_of kind }
-{
-    match kind {
-        1 => 3,
-        2 => 6,
-        3 => 2,
-        _ => 0,
+// What a record does: it sets a pin, waits, or cycles the power.
+#[derive(Clone, Copy)]
+pub enum RecordKind {
+    Pin = 1,
+    Wait,
+    Power,
+}
+
+impl TryFrom<usize> for RecordKind {
+    type Error = Refusal;
+
+    ghost try_from_gives = { IsKind };
+
+    fn try_from(number: usize) -> Result<RecordKind, Refusal> {
+        match number {
+            1 => Ok(RecordKind::Pin),
+            2 => Ok(RecordKind::Wait),
+            3 => Ok(RecordKind::Power),
+            _ => Err(Refusal::Kind),
+        }
+    }
+}
+
+impl RecordKind {
+    pub fn length(self) -> usize
+        ensures { result ≡ length_of (kind_number self) }
+    {
+        match self {
+            RecordKind::Pin => 3,
+            RecordKind::Wait => 6,
+            RecordKind::Power => 2,
+        }
     }
 }
 
@@ -33,9 +57,8 @@ pub fn length_of(kind: usize) -> usize
 pub fn pin_event(byte: u8) -> Event
     ensures { result ≡ pin_event byte }
 {
-    let high = bits::bit_of(byte, 0);
-    let pin = byte >> 1;
-    match pin {
+    let high = bits::bit_of(byte as usize, 0);
+    match byte >> 1 {
         0 => Event::Clock(high),
         1 => Event::Data(high),
         2 => Event::Select(high),
@@ -45,126 +68,84 @@ pub fn pin_event(byte: u8) -> Event
 }
 
 // The event of a record of this kind.
-pub fn event_at(trace: &[u8], at: usize, kind: usize) -> Event
-    requires { (kind ≡ two trace.now (at + 2)) × (at + 2 + length_of kind ≤ length trace.now) }
+#[tactic(auto, unfolding(rules::specs::Trace::event_at))]
+pub fn event_at(trace: &[u8], at: usize, kind: RecordKind) -> Event
+    requires { (kind_number kind ≡ two trace.now (at + 2)) × (at + 2 + length_of (kind_number kind) ≤ length trace.now) }
     ensures { result ≡ event_at trace.now at }
 {
     match kind {
-        1 => pin_event(trace[at + 4]),
-        2 => Event::Wait(bits::four(two_at(trace, at + 4), two_at(trace, at + 6))),
-        _ => Event::Power,
+        RecordKind::Pin => pin_event(trace[at + 4]),
+        RecordKind::Wait => Event::Wait(bits::four(two_at(trace, at + 4), two_at(trace, at + 6))),
+        RecordKind::Power => Event::Power,
     }
 }
 
 // Whether the pin byte of a record is above 9.
-pub fn is_bad_pin(trace: &[u8], at: usize, kind: usize) -> bool
-    requires { at + 2 + length_of kind ≤ length trace.now }
-    ensures { result ≡ bad_pin trace.now at kind }
+pub fn is_bad_pin(trace: &[u8], at: usize, kind: RecordKind) -> bool
+    requires { at + 2 + length_of (kind_number kind) ≤ length trace.now }
+    ensures { result ≡ bad_pin trace.now at (kind_number kind) }
 {
-    if kind == 1 {
-        return 9 < trace[at + 4];
-    }
-    false
+    matches!(kind, RecordKind::Pin) && 9 < trace[at + 4]
 }
 
-// What the record at a place is refused with by its form, in document 01's order, or 0. What its event is refused with comes after.
-pub fn refused(trace: &[u8], at: usize, full: bool) -> usize
+// A record: its event, and the place behind it.
+#[derive(Clone, Copy)]
+pub struct Record {
+    pub event: Event,
+    pub next: usize,
+}
+
+// The record at a place, refused by its form in document 01's order. What its event is refused with comes after.
+#[tactic(auto, unfolding(crate::specs::Form::form_refusal))]
+pub fn record_at(trace: &[u8], at: usize, full: bool) -> Result<Record, Refusal>
     requires { at ≤ length trace.now }
-    ensures { result ≡ form_refusal trace.now at full }
+    ensures number { number_of result ≡ form_refusal trace.now at full }
+    ensures record { IfOk result (λ r. (r.event ≡ event_at trace.now at) × (r.next ≡ at + 2 + two trace.now at)) }
 {
     let left = trace.len() - at;
     if left < 4 {
-        return 6;
+        return Err(Refusal::Cut);
     }
     let size = two_at(trace, at);
-    let kind = two_at(trace, at + 2);
-    let right = length_of(kind);
-    if right == 0 {
-        return 7;
-    }
+    let kind = RecordKind::try_from(two_at(trace, at + 2))?;
+    let right = kind.length();
     if size != right {
-        return 8;
+        return Err(Refusal::Length);
     }
     if left < 2 + right {
-        return 6;
+        return Err(Refusal::Cut);
     }
     if is_bad_pin(trace, at, kind) {
-        return 9;
+        return Err(Refusal::Pin);
     }
     if full {
-        return 10;
+        return Err(Refusal::Answers);
     }
-    0
+    Ok(Record {
+        event: event_at(trace, at, kind),
+        next: at + 2 + size,
+    })
 }
 
-// One record's turn: its number, the bytes taken and the records done then, and the state.
-#[derive(Clone, Copy)]
-pub struct Turn {
-    pub number: usize,
-    pub taken: usize,
-    pub done: usize,
-    pub state: State,
-}
-
-// No event of a pin is refused, so that it is done at once; any other is tried.
+// One record's turn, and the place behind it.
+#[tactic(auto, unfolding(rules::specs::Trace::turn))]
 pub fn one(
-    row: Row,
-    s: State,
-    cells: &mut [u8],
-    identification: &mut [u8],
-    latch: &mut [u8],
-    counts: &mut [u16],
+    device: Device,
+    world: &mut World,
     trace: &[u8],
     answers: &mut [u8],
     at: usize,
     n: usize,
-) -> Turn
-    requires widths { (Widths row) × (Sound row (world_of s cells.old identification.old latch.old counts.old))
-        × (Lent row (world_of s cells.old identification.old latch.old counts.old)) }
+) -> Result<usize, Refusal>
+    requires sound { Sound device.row (world_in world.old) }
+    requires lent { Lent device.row (world_in world.old) }
     requires at_in_bounds { at < length trace.now }
-    ensures { progress_of result.number result.taken result.done (world_of result.state cells.new identification.new latch.new counts.new) answers.new
-        ≡ turn row trace.now (progress_of 0 at n (world_of s cells.old identification.old latch.old counts.old) answers.old) }
+    ensures same { AreSame world.new world.old }
+    ensures turn { progress_of (number_of result) (place_after at result) (count_after n result) (world_in world.new) answers.new
+        ≡ turn device.row trace.now (progress_of 0 at n (world_in world.old) answers.old) }
 {
-    let number = refused(trace, at, answers.len() <= n);
-    if number != 0 {
-        return Turn {
-            number: number,
-            taken: at,
-            done: n,
-            state: s,
-        };
-    }
-    let size = two_at(trace, at);
-    let kind = two_at(trace, at + 2);
-    let event = event_at(trace, at, kind);
-    let next = at + 2 + size;
-    let done = n + 1;
-    if kind == 1 {
-        let moved = chip::event::step(row, s, cells, identification, latch, counts, event);
-        answers[n] = chip::event::answer(moved);
-        return Turn {
-            number: 0,
-            taken: next,
-            done: done,
-            state: moved,
-        };
-    }
-    let tried = chip::event::attempt(row, s, cells, identification, latch, counts, event);
-    if tried.number != 0 {
-        let kept = tried.state;
-        return Turn {
-            number: tried.number,
-            taken: at,
-            done: n,
-            state: kept,
-        };
-    }
-    let t = tried.state;
-    answers[n] = chip::event::answer(t);
-    Turn {
-        number: 0,
-        taken: next,
-        done: done,
-        state: t,
-    }
+    let record = record_at(trace, at, answers.len() <= n)?;
+    take(device, world, record.event)?;
+    answers[n] = answer(world.state).byte();
+    Ok(record.next)
 }

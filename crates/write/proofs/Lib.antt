@@ -1,3 +1,3 @@
--- The laws of judging and of waiting.
-pub mod Deciding
+-- The laws of waiting.
 pub mod Passing
+pub mod Named

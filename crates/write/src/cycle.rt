@@ -1,20 +1,13 @@
 // Time passes: what the end of a cycle changes.
 
-ghost use Rattle.std.specs.Prelude.{◌≡◌, ◌&&◌, ◌-◌, length, if◌then◌else◌};
+ghost use Rattle.std.specs.Prelude.{◌≡◌, ◌&&◌, length, if◌then◌else◌};
 ghost use Rattle.rules.specs.World.{world_of};
-ghost use Rattle.rules.specs.Device.{Widths, page_count};
+ghost use Rattle.rules.specs.Device.{page_count};
 ghost use Rattle.rules.specs.Instruction.{changes};
 ghost use Rattle.rules.specs.Cycle.{is_miscounted, ends, waited_state, waited};
 ghost use Rattle.rules.specs.Sound.{SoundCycle, Lent};
 
-use rules::{Cycle, Kind, Registers, Row, State};
-
-// A wait takes its microseconds from those left, and stops at none.
-pub fn less(left: usize, wait: usize) -> usize
-    ensures { result ≡ left - wait }
-{
-    if wait < left { left - wait } else { 0 }
-}
+use rules::{Device, Kind, Registers, State};
 
 // The stored status bits at the end of a cycle, which may change them.
 pub fn status_after(s: State, changes: bool) -> u8
@@ -27,55 +20,41 @@ pub fn status_after(s: State, changes: bool) -> u8
     }
 }
 
-// The state after a wait.
+// The state after a wait, which takes its microseconds from those left and stops at none.
+#[tactic(auto, unfolding(rules::specs::Cycle::waited_state))]
 pub fn state_after(s: State, wait: usize) -> State
     ensures { result ≡ waited_state wait s }
 {
-    let cycle = s.cycle;
-    let kind = cycle.kind;
-    let change = tables::changes(kind);
+    let change = tables::changes(s.cycle.kind);
     let mut t = s;
-    let left = less(s.place.left, wait);
-    t.place.left = left;
+    t.place.left = s.place.left.saturating_sub(wait);
     if !(change.runs & (s.place.left <= wait)) {
         return t;
     }
-    let locked = s.registers.locked | change.lock;
-    let status = status_after(s, change.status);
-    let registers = Registers {
-        status: status,
+    t.registers = Registers {
+        status: status_after(s, change.status),
         wel: false,
-        locked: locked,
+        locked: s.registers.locked | change.lock,
     };
-    let next = Cycle {
-        kind: Kind::None,
-        next: cycle.next,
-    };
-    t.registers = registers;
-    t.cycle = next;
+    t.cycle.kind = Kind::None;
     t
 }
 
 // Whether a wait would end an array cycle on a page whose count is wrong. Only then is a page counted.
-pub fn ends_miscounted(row: Row, s: State, cells: &[u8], counts: &[u16], wait: u32) -> bool
-    requires widths { (Widths row) × (SoundCycle row s.cycle.kind s.cycle.next s.place.start s.place.left) }
-    requires cells_len { (length cells.now ≡ row.cells) × (length counts.now ≡ page_count row) }
-    ensures { result ≡ (ends wait s && (changes s.cycle.kind).cells && is_miscounted row s.place.start cells.now counts.now) }
+pub fn ends_miscounted(device: Device, s: State, cells: &[u8], counts: &[u16], wait: u32) -> bool
+    requires cycle { SoundCycle device.row s.cycle.kind s.cycle.next s.place.start s.place.left }
+    requires cells_len { (length cells.now ≡ device.row.cells) × (length counts.now ≡ page_count device.row) }
+    ensures { result ≡ (ends wait s && (changes s.cycle.kind).cells && is_miscounted device.row s.place.start cells.now counts.now) }
 {
-    let n = wait as usize;
-    let cycle = s.cycle;
-    let kind = cycle.kind;
-    let change = tables::changes(kind);
-    if change.runs & (s.place.left <= n) & change.cells {
-        let start = s.place.start;
-        return memory::counts::is_miscounted(row, start, cells, counts);
-    }
-    false
+    let change = tables::changes(s.cycle.kind);
+    let ends = change.runs & (s.place.left <= wait as usize);
+    ends & change.cells && memory::counts::is_miscounted(device, s.place.start, cells, counts)
 }
 
 // A wait: where the cycle ends, its marked bytes go to their places, and the page that takes them is counted afresh.
+#[tactic(auto, unfolding(rules::specs::Cycle::waited))]
 pub fn wait(
-    row: Row,
+    device: Device,
     s: State,
     cells: &mut [u8],
     identification: &mut [u8],
@@ -83,26 +62,19 @@ pub fn wait(
     counts: &mut [u16],
     wait: u32,
 ) -> State
-    requires widths { (Widths row) × (SoundCycle row s.cycle.kind s.cycle.next s.place.start s.place.left) }
-    requires lent { Lent row (world_of s cells.old identification.old latch.now counts.old) }
+    requires cycle { SoundCycle device.row s.cycle.kind s.cycle.next s.place.start s.place.left }
+    requires lent { Lent device.row (world_of s cells.old identification.old latch.now counts.old) }
     ensures { world_of result cells.new identification.new latch.now counts.new
-        ≡ waited row wait (world_of s cells.old identification.old latch.now counts.old) }
+        ≡ waited device.row wait (world_of s cells.old identification.old latch.now counts.old) }
 {
     let n = wait as usize;
-    let cycle = s.cycle;
-    let kind = cycle.kind;
-    let change = tables::changes(kind);
+    let change = tables::changes(s.cycle.kind);
     let ends = change.runs & (s.place.left <= n);
-    let t = state_after(s, n);
     if ends & change.cells {
-        let start = s.place.start;
-        memory::write_marked(row, latch, start, cells);
-        memory::counts::recount(row, start, cells, counts);
-        return t;
+        memory::write_marked(device.row, latch, s.place.start, cells);
+        memory::counts::recount(device, s.place.start, cells, counts);
+    } else if ends & change.identification {
+        memory::write_marked(device.row, latch, 0, identification);
     }
-    if ends & change.identification {
-        memory::write_marked(row, latch, 0, identification);
-        return t;
-    }
-    t
+    state_after(s, n)
 }

@@ -1,10 +1,9 @@
 // S rises: whether the command is done, and what a done one sets or starts.
 
-ghost use Rattle.std.specs.Prelude.{◌≡◌, ◌<◌, if◌then◌else◌};
-ghost use Rattle.rules.specs.Device.{Widths};
+ghost use Rattle.std.specs.Prelude.{◌≡◌, if◌then◌else◌};
 ghost use Rattle.rules.specs.Judge.{storable, blocks, is_protected, is_shut, allows, is_complete, is_dropped, is_done, start_of, judged};
 
-use rules::{Cycle, Kind, Row, State};
+use rules::{Cycle, Device, Kind, Row, State};
 
 // The block protection bits.
 pub fn blocks(s: State) -> u8
@@ -14,6 +13,7 @@ pub fn blocks(s: State) -> u8
 }
 
 // Whether a setting of the bits protects an address: one look-up in the service sheet, one comparison.
+#[tactic(auto, unfolding(rules::specs::Judge::is_protected))]
 pub fn is_protected(row: Row, bp: u8, address: usize) -> bool
     ensures { result ≡ is_protected row bp address }
 {
@@ -28,11 +28,12 @@ pub fn is_shut(s: State) -> bool
 }
 
 // Whether a command has what it asks for besides whole bytes, by the cycle that it starts.
-pub fn allows(row: Row, s: State, kind: Kind) -> bool
-    requires { Widths row }
-    ensures { result ≡ allows row s kind }
+#[tactic(auto, unfolding(rules::specs::Judge::allows))]
+pub fn allows(device: Device, s: State, kind: Kind) -> bool
+    ensures { result ≡ allows device.row s kind }
 {
-    let bytes = s.input.bytes as usize;
+    let row = device.row;
+    let bytes = usize::from(s.input.bytes);
     let wel = s.registers.wel;
     let one = row.width == 1;
     let low = s.selection.seen & one;
@@ -40,7 +41,7 @@ pub fn allows(row: Row, s: State, kind: Kind) -> bool
         Kind::None => bytes == 1,
         Kind::Status => (bytes == 2)
             & wel
-            & !(s.selection.seen & (bits::bit_of(s.registers.status, 7) | one)),
+            & !(s.selection.seen & (bits::bit_of(usize::from(s.registers.status), 7) | one)),
         Kind::Array => (1 + row.width < bytes)
             & wel
             & !is_protected(row, blocks(s), s.place.address)
@@ -50,53 +51,44 @@ pub fn allows(row: Row, s: State, kind: Kind) -> bool
             & wel
             & !is_shut(s)
             & !low
-            & bits::bit_of(s.input.last, 1),
+            & bits::bit_of(usize::from(s.input.last), 1),
     }
 }
 
 // Complete: not turned away, whole bytes, and all that the command asks for.
-pub fn is_complete(row: Row, s: State) -> bool
-    requires { Widths row }
-    ensures { result ≡ is_complete row s }
+#[tactic(auto, unfolding(rules::specs::Judge::is_whole))]
+pub fn is_complete(device: Device, s: State) -> bool
+    ensures { result ≡ is_complete device.row s }
 {
-    let command = s.command;
-    let i = command.instruction;
-    let f = tables::facts(i);
-    let starts = f.starts;
-    !command.away & (s.input.bits == 0) & allows(row, s, starts)
+    let starts = tables::facts(s.command.instruction).starts;
+    !s.command.away & (s.input.bits == 0) & allows(device, s, starts)
 }
 
 // Dropped: found in hold, and no write that this device triggers there.
 pub fn is_dropped(row: Row, s: State) -> bool
     ensures { result ≡ is_dropped row s }
 {
-    let command = s.command;
-    let i = command.instruction;
-    let f = tables::facts(i);
-    let starts = f.starts;
-    let change = tables::changes(starts);
+    let f = tables::facts(s.command.instruction);
+    let change = tables::changes(f.starts);
     s.selection.held & !(row.triggers & (f.addressed & change.runs))
 }
 
 // Done, in hold or out of it.
-pub fn is_done(row: Row, s: State) -> bool
-    requires { Widths row }
-    ensures { result ≡ is_done row s }
+#[tactic(auto, unfolding(rules::specs::Judge::is_done))]
+pub fn is_done(device: Device, s: State) -> bool
+    ensures { result ≡ is_done device.row s }
 {
-    !is_dropped(row, s) & is_complete(row, s)
+    !is_dropped(device.row, s) & is_complete(device, s)
 }
 
 // The page start of a cycle.
-pub fn start_of(row: Row, s: State, kind: Kind) -> usize
-    requires { Widths row }
-    ensures { result ≡ start_of row s kind }
+pub fn start_of(device: Device, s: State, kind: Kind) -> usize
+    ensures { result ≡ start_of device.row s kind }
 {
     match kind {
-        Kind::None => s.place.start,
-        Kind::Array => s.place.address - bits::place(row, s.place.address),
+        Kind::Array => s.place.address - bits::place(device, s.place.address),
         Kind::Identification => 0,
-        Kind::Status => s.place.start,
-        Kind::Lock => s.place.start,
+        Kind::None | Kind::Status | Kind::Lock => s.place.start,
     }
 }
 
@@ -112,33 +104,25 @@ pub fn next_of(row: Row, s: State, status: bool) -> u8
 }
 
 // The command is judged: a done one sets or resets WEL, or starts its cycle.
-pub fn judge(row: Row, s: State) -> State
-    requires { Widths row }
-    ensures { result ≡ judged row s }
+#[tactic(auto, unfolding(rules::specs::Judge::judged))]
+pub fn judge(device: Device, s: State) -> State
+    ensures { result ≡ judged device.row s }
 {
-    if !is_done(row, s) {
+    if !is_done(device, s) {
         return s;
     }
-    let command = s.command;
-    let i = command.instruction;
-    let f = tables::facts(i);
-    let starts = f.starts;
-    let change = tables::changes(starts);
+    let f = tables::facts(s.command.instruction);
+    let change = tables::changes(f.starts);
     let mut t = s;
-    let wel = f.sets | s.registers.wel & !f.resets;
-    t.registers.wel = wel;
+    t.registers.wel = f.sets | s.registers.wel & !f.resets;
     if !change.runs {
         return t;
     }
-    let start = start_of(row, s, starts);
-    let next = next_of(row, s, change.status);
-    let cycle = Cycle {
-        kind: starts,
-        next: next,
+    t.cycle = Cycle {
+        kind: f.starts,
+        next: next_of(device.row, s, change.status),
     };
-    t.cycle = cycle;
-    t.place.start = start;
-    let left = row.time;
-    t.place.left = left;
+    t.place.start = start_of(device, s, f.starts);
+    t.place.left = device.row.time;
     t
 }

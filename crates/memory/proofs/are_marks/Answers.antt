@@ -1,28 +1,18 @@
 -- `memory::are_marks` meets its contract.
-use mathlib.Core.Path.{refl, sym, ◌∙◌}
-use native.Mathlib.Omega.{arith}
-use Rattle.memory.proofs.Laws.{mark-good, mark-bad, marks-end}
+use mathlib.Core.Path.{refl, ◌∙◌}
+use mathlib.Core.Bool.{◌&&◌}
+use lib.Dec.{leb}
+use borrow.Author.Rules.{rules}
+use borrow.Author.Tests.{tests}
+use Rattle.std.specs.List.{list_all}
+use Rattle.std.proofs.lemmas.Iterator.{YieldsList-from_slice}
+use Rattle.std.proofs.lemmas.Iterator.Search.{all_from_yields_List}
+use Rattle.std.proofs.lemmas.List.Recursion.{same_from_clauses}
+use Rattle.rules.specs.Sound.{are_marks}
 use Rattle.memory.proofs.are_marks.Goals as goal
 
-pub loop-i-init : goal.loop-i-init
-loop-i-init c = (refl, omega arith, refl)
-
-pub bounds-marks-i : goal.bounds-marks-i
-bounds-marks-i c = omega arith
-
-pub returns-then-marks-i-gt1 : goal.returns-then-marks-i-gt1
-returns-then-marks-i-gt1 c =
-    sym (c.loop-i.invariant.2 ∙ mark-bad c.args.marks.now c.loop-i.i (omega arith) c.if-marks-i-gt1.true)
-
-pub overflow_step-i : goal.overflow_step-i
-overflow_step-i c = omega arith
-
-pub loop-i-smaller : goal.loop-i-smaller
-loop-i-smaller c = omega arith
-
-pub loop-i-preserved : goal.loop-i-preserved
-loop-i-preserved c =
-    (c.loop-i.invariant.0, omega arith, c.loop-i.invariant.2 ∙ mark-good c.args.marks.now c.loop-i.i (omega arith) c.if-marks-i-gt1.false)
-
 pub returns : goal.returns
-returns c = sym (c.loop-i.invariant.2 ∙ marks-end c.args.marks.now c.loop-i.i (omega arith))
+returns c =
+    let ms = c.args.marks.now in
+    all_from_yields_List (λ m. leb m 1) _ _ _ c.all.ensures.ran (YieldsList-from_slice ms cc) (λ x b q k. search (rules, tests))
+    ∙ same_from_clauses (list_all (λ m. leb m 1)) are_marks (λ m r. leb m 1 && r) refl (λ _ _. refl) (λ _ _. refl) ms

@@ -1,31 +1,25 @@
 -- `memory::prepare_identification` meets its contract.
-use lib.ListN.{length, length-set}
+use lib.ListN.{length}
 use native.Mathlib.Omega.{arith}
-use Rattle.memory.proofs.Laws.{code-room, with_code, without-code, length-fill}
+use borrow.Author.Rules.{rules}
+use Prim.Native.Nat.{◌≤◌}
+use Rattle.rules.proofs.Widths.{widths}
+use Rattle.memory.proofs.Laws.{code-room}
 use Rattle.memory.proofs.prepare_identification.Goals as goal
+use Rattle.memory.proofs.prepare_identification.Goals.{Then-device}
 
-pub bounds-page-0 : goal.bounds-page-0
-bounds-page-0 c =
-    let room = code-room c.args.row c.if-row.true c.requires.0.code_fits in
-    let long = length-fill (length c.args.page.now) c.fill.ensures in
-    omega (arith, room, c.requires.1, long)
+room : (c : Then-device) → 3 ≤ length c.fill.new.self
+room c =
+    let coded = code-room c.args.device.row c.if-device.true (widths _ c.args.device.wide).code_fits in
+    omega (arith, coded, c.requires, c.fill.ensures.len)
 
-pub bounds-page-1 : goal.bounds-page-1
-bounds-page-1 c =
-    let room = code-room c.args.row c.if-row.true c.requires.0.code_fits in
-    let long = length-fill (length c.args.page.now) c.fill.ensures in
-    simp length-set (omega (arith, room, c.requires.1, long))
+pub slice_bounds-copy_from_slice-end : goal.slice_bounds-copy_from_slice-end
+slice_bounds-copy_from_slice-end c = room (goal.at.slice_bounds-copy_from_slice-end c).Then-device
 
-pub bounds-page-2 : goal.bounds-page-2
-bounds-page-2 c =
-    let room = code-room c.args.row c.if-row.true c.requires.0.code_fits in
-    let long = length-fill (length c.args.page.now) c.fill.ensures in
-    simp length-set (omega (arith, room, c.requires.1, long))
+pub slice_bounds-copy_from_slice-end-then-device :
+    goal.slice_bounds-copy_from_slice-end-then-device
+slice_bounds-copy_from_slice-end-then-device c =
+    let three = room (goal.at.slice_bounds-copy_from_slice-end-then-device c).Then-device in search rules
 
-pub returns-then-row : goal.returns-then-row
-returns-then-row c =
-    rw (c.fill.ensures, c.requires.1) (with_code c.args.row c.args.row.identification c.if-row.true c.requires.0.code_fits)
-
-pub returns : goal.returns
-returns c =
-    rw (c.fill.ensures, c.requires.1) (without-code c.args.row c.args.row.identification c.if-row.false)
+pub copy_from_slice-requires : goal.copy_from_slice-requires
+copy_from_slice-requires c = let three = room (goal.at.copy_from_slice-requires c).Then-device in search rules

@@ -1,56 +1,42 @@
 -- `memory::write_marked` meets its contract. The test of a mark is handed to `omega`, so that its meaning counts and not its spelling.
+use Prim.Native.Nat.{◌+◌}
 use Rattle.rules.specs.Cycle.{written}
-use lib.ListN.{length, length-set}
-use mathlib.Core.Path.{◌≡◌, refl, ap, ◌∙◌}
+use lib.ListN.{get_or, length, take, drop}
+use mathlib.Core.Path.{◌≡◌, refl}
 use native.Mathlib.Omega.{arith}
-use Rattle.memory.proofs.Laws.{written-set, written-keep}
+use Rattle.std.proofs.lemmas.List.{length_push}
+use Rattle.std.proofs.lemmas.Iterator.{YieldsList-from_slice, YieldsList-from_zip}
+use Rattle.std.proofs.lemmas.Iterator.Consumers.{YieldsList-at, YieldsList-from_enumerate, YieldsList-turn}
+use Rattle.memory.proofs.Laws.{written-set, written-keep, place-at}
 use Rattle.memory.proofs.write_marked.Goals as goal
-use Rattle.memory.proofs.write_marked.Goals.{then-is_marked, else-is_marked}
+use Rattle.memory.proofs.write_marked.Goals.{In-Some}
+
+-- The byte and the mark of this turn are those of the next place.
+here : (c : In-Some) → let n = length c.loop-i.yielded in
+    (c.in-Some.i ≡ n) × (c.in-Some.byte.now ≡ get_or c.args.latch.now n 0) × (c.in-Some.mark.now ≡ get_or c.args.latch.now (c.args.row.page + n) 0)
+here c =
+    let page = c.args.row.page in
+    let latch = c.args.latch.now in
+    let item = c.in-Some in
+    let pairs = YieldsList-from_zip {s = c.zip.result} (YieldsList-from_slice (take page latch) cc) (YieldsList-from_slice (drop page latch) cc) in
+    let places = YieldsList-at c.into_iter-i-iterator.ensures.into_iter_gives (YieldsList-from_enumerate (YieldsList-at c.enumerate-i-items.ensures.source pairs) c.enumerate-i-items.ensures.count) in
+    let turn = YieldsList-turn places c.loop-i.yielded c.loop-i.i-iterator c.loop-i.yielded_by _ c.next.new.self (item.i, (item.byte, item.mark)) item.is c.next.ensures.steps in
+    place-at page latch (length c.loop-i.yielded) item.i item.byte.now item.mark.now c.requires.0 turn
 
 pub loop-i-init : goal.loop-i-init
 unfolding written
-loop-i-init c = (omega arith, refl, refl)
+loop-i-init c = refl
 
-pub overflow_add-is_marked : goal.overflow_add-is_marked
-overflow_add-is_marked c = omega arith
-
-pub bounds-latch-page : goal.bounds-latch-page
-bounds-latch-page c = omega arith
-
-pub bounds-latch-i : goal.bounds-latch-i
-bounds-latch-i c = omega arith
-
-pub overflow_add-bytes : goal.overflow_add-bytes
-overflow_add-bytes c = omega arith
-
-pub bounds-bytes-start : goal.bounds-bytes-start
-bounds-bytes-start c = omega arith
-
-pub overflow_step-i : goal.overflow_step-i
-overflow_step-i c = omega arith
-
-pub loop-i-smaller : goal.loop-i-smaller
-loop-i-smaller c = omega arith
+pub loop-i-preserved-then-is_marked : goal.loop-i-preserved-then-is_marked
+loop-i-preserved-then-is_marked c =
+    let a = c.args in
+    let at = here (goal.at.loop-i-preserved-then-is_marked c).In-Some in
+    let more = length_push c.loop-i.yielded (c.in-Some.i, (c.in-Some.byte, c.in-Some.mark)) in
+    cc (written-set a.row.page a.latch.now a.start a.bytes.now (length c.loop-i.yielded) (omega (arith, c.if-is_marked.true)))
 
 pub loop-i-preserved : goal.loop-i-preserved
 loop-i-preserved c =
-    let l = c.loop-i in
     let a = c.args in
-    elim c.if-is_marked.branch [
-      | then-is_marked w ↦ (
-        omega arith,
-        ap length w.bytes-is ∙ simp length-set l.invariant.1,
-        cc (written-set a.row.page a.latch.now a.start a.bytes.now l.i (omega (arith, w.if-is_marked.true))),
-      )
-      | else-is_marked w ↦ (
-        omega arith,
-        ap length w.bytes-is ∙ l.invariant.1,
-        cc (written-keep a.row.page a.latch.now a.start a.bytes.now l.i (omega (arith, w.if-is_marked.false))),
-      )
-    ]
-
-pub shape_of-bytes : goal.shape_of-bytes
-shape_of-bytes c = omega arith
-
-pub returns : goal.returns
-returns c = let e : c.loop-i.i ≡ c.args.row.page = omega arith in cc
+    let at = here (goal.at.loop-i-preserved c).In-Some in
+    let more = length_push c.loop-i.yielded (c.in-Some.i, (c.in-Some.byte, c.in-Some.mark)) in
+    cc (written-keep a.row.page a.latch.now a.start a.bytes.now (length c.loop-i.yielded) (omega (arith, c.if-is_marked.false)))

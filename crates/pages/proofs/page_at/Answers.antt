@@ -1,17 +1,14 @@
 -- `pages::page_at` meets its contract.
+use Prim.Native.Nat.{◌-◌, ◌%◌, ◌<◌}
 use native.Mathlib.Nat.{mod-le}
 use native.Mathlib.Omega.{arith}
-use Rattle.pages.proofs.Showing.{page-cut, page-inside}
+use Rattle.rules.proofs.Widths.{widths, start-aligned, page-room}
 use Rattle.pages.proofs.page_at.Goals as goal
-
-pub overflow_sub-start : goal.overflow_sub-start
-overflow_sub-start c =
-    omega (arith, c.place.ensures, mod-le c.args.address c.args.row.page)
 
 pub slice_bounds-result-end : goal.slice_bounds-result-end
 slice_bounds-result-end c =
-    omega (arith, page-inside c.requires.0 c.args.address c.place.result c.place.ensures c.requires.2, c.requires.1)
-
-pub returns : goal.returns
-returns c =
-    page-cut c.args.cells.now c.args.address c.args.row.page c.place.result _ c.place.ensures (omega arith)
+    let row = c.args.device.row in
+    let address = c.args.address in
+    let start : address - address % row.page < row.cells = omega (arith, c.requires, mod-le address row.page) in
+    let room = page-room (widths row c.args.device.wide) (address - address % row.page) (start-aligned row address) start in
+    omega (arith, room, c.place.ensures, c.requires)

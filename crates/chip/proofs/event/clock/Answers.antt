@@ -2,18 +2,11 @@
 use Rattle.chip.proofs.Events.{clock-up, clock-down}
 use Rattle.chip.proofs.event.clock.Goals as goal
 
-pub rise-t-requires : goal.rise-t-requires
-rise-t-requires c =
-    (c.requires.widths.0, c.requires.widths.1, c.requires.widths.2, c.requires.cells_len.2)
-
 pub returns-then-high : goal.returns-then-high
 returns-then-high c =
-    λ counts. clock-up c.args.row c.args.s _ c.is_decoding.ensures c.if-high.true c.rise-t.ensures.0 c.rise-t.ensures.1 c.settle.ensures
+    let rise = c.rise-t.ensures in
+    λ counts. clock-up c.args.device.row c.args.s _ c.is_decoding.ensures c.if-high.true rise.0 rise.1 c.set_clock.ensures
 
-pub fall-t-requires : goal.fall-t-requires
-fall-t-requires c =
-    (c.requires.widths.0, c.requires.widths.1.few, c.requires.widths.2, c.requires.widths.3, c.requires.cells_len.0, c.requires.cells_len.1)
-
-pub returns : goal.returns
-returns c =
-    λ counts. clock-down c.args.row c.args.s _ c.is_decoding-2.ensures c.if-high.false c.fall-t.ensures c.settle-2.ensures
+pub returns-else-high : goal.returns-else-high
+returns-else-high c =
+    λ counts. clock-down c.args.device.row c.args.s _ c.is_decoding-else-high.ensures c.if-high.false c.fall-t.ensures c.set_clock-else-high.ensures

@@ -7,7 +7,7 @@ use Rattle.memory.proofs.Laws.{blank_from}
 use Rattle.memory.proofs.counts.first_blank.Given as goal
 
 abbrev pub invariant-loop-page : goal.invariant-loop-page
-invariant-loop-page l = (l.pages ≡ length l.counts) × (l.page ≤ length l.counts) × (blank_from l.counts l.page ≡ first_blank (length l.counts) l.counts)
+invariant-loop-page l = (l.page ≤ length l.counts) × (blank_from l.counts l.page ≡ first_blank (length l.counts) l.counts)
 
 abbrev pub decreases-loop-page : goal.decreases-loop-page
 decreases-loop-page l = length l.counts - l.page

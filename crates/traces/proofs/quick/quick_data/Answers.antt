@@ -3,6 +3,4 @@ use Rattle.traces.proofs.Short.{data-way}
 use Rattle.traces.proofs.quick.quick_data.Goals as goal
 
 pub returns : goal.returns
-returns c =
-    let given = c.args in
-    data-way given.row given.s _ c.requires
+returns c = data-way c.args.row c.args.s _ c.requires

@@ -5,6 +5,4 @@ use Rattle.traces.proofs.Short.{shift-way}
 use Rattle.traces.proofs.quick.quick_shift.Goals as goal
 
 pub returns : goal.returns
-returns c =
-    let given = c.args in
-    shift-way given.row given.s (world_of given.s [] [] [] []) c.requires.1 c.requires.2 c.requires.3 c.requires.4 c.bit_out-output.ensures
+returns c = shift-way c.args.row c.args.s (world_of c.args.s [] [] [] []) c.requires.1 c.requires.2 c.requires.3 c.requires.4 c.bit_out-t.ensures

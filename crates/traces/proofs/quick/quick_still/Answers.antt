@@ -5,6 +5,4 @@ use Rattle.traces.proofs.Short.{still-way}
 use Rattle.traces.proofs.quick.quick_still.Goals as goal
 
 pub returns : goal.returns
-returns c =
-    let given = c.args in
-    still-way given.row given.s (world_of given.s [] [] [] []) c.requires.0 c.requires.1
+returns c = still-way c.args.row c.args.s (world_of c.args.s [] [] [] []) c.requires.0 c.requires.1

@@ -3,6 +3,4 @@ use Rattle.traces.proofs.Short.{whole-way}
 use Rattle.traces.proofs.quick.quick_whole.Goals as goal
 
 pub returns : goal.returns
-returns c =
-    let given = c.args in
-    whole-way given.row given.s c.requires.1 c.requires.2 c.requires.3 c.requires.4 c.with_bit-input.ensures
+returns c = whole-way c.args.row c.args.s c.requires.1 c.requires.2 c.requires.3 c.requires.4 c.with_bit-t.ensures

@@ -1,2 +1,0 @@
--- What the calls are tried on.
-pub mod Lent

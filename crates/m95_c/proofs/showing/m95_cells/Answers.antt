@@ -1,7 +1,0 @@
--- `m95_c::showing::m95_cells` meets its contract.
-use mathlib.Core.Path.{ap}
-use Rattle.m95_c.specs.declared.showing.Sizes.{Sizes}
-use Rattle.m95_c.proofs.showing.m95_cells.Goals as goal
-
-pub returns : goal.returns
-returns c = ap (λ (x : Sizes). x.cells) c.sizes_of-sizes.ensures

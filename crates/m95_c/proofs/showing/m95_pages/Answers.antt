@@ -1,7 +1,0 @@
--- `m95_c::showing::m95_pages` meets its contract.
-use mathlib.Core.Path.{ap}
-use Rattle.m95_c.specs.declared.showing.Sizes.{Sizes}
-use Rattle.m95_c.proofs.showing.m95_pages.Goals as goal
-
-pub returns : goal.returns
-returns c = ap (λ (x : Sizes). x.pages) c.sizes_of-sizes.ensures

@@ -1,2 +1,0 @@
--- The laws of the pages that are shown.
-pub mod Showing
