@@ -24,4 +24,6 @@ fn main() {
     running::refuses_a_wrong_count();
     running::writes_in_hold();
     running::runs();
+    running::keeps_lengths();
+    running::judges_a_world();
 }

@@ -10,7 +10,7 @@ rules::specs::Judge::judged, rules::specs::Judge::is_done, rules::specs::Judge::
 // A trace.
 rules::specs::Call::run_outcome, rules::specs::Trace::turn, rules::specs::Trace::record_refusal, rules::specs::Trace::event_at,))]
 
-ghost use Rattle.std.specs.Prelude.{◌≡◌};
+ghost use Rattle.std.specs.Prelude.{◌≡◌, length};
 ghost use Rattle.rules.specs.Refused.{answer_of};
 
 use rules::{Command, Cycle, Event, Instruction, Kind, Level, Place, Refusal, World, number_of};
@@ -106,4 +106,43 @@ pub fn runs() {
     let refused = m95::run(9, &mut world, &trace, &mut answers, 5);
     check::expect(number_of(refused.ended) == 1);
     check::expect(refused.done == 0);
+}
+
+// An event and a trace on whatever device: each buffer is as long afterwards as it was lent, done or refused.
+fn asks(device: u8, world: &mut World, event: Event, trace: &[u8], answers: &mut [u8])
+    ensures cells { length world.new.cells.now ≡ length world.old.cells.now }
+    ensures identification { length world.new.identification.now ≡ length world.old.identification.now }
+    ensures latch { length world.new.latch.now ≡ length world.old.latch.now }
+    ensures counts { length world.new.counts.now ≡ length world.old.counts.now }
+{
+    let _ = m95::event(device, world, event);
+    let _ = m95::run(device, world, trace, answers, trace.len());
+}
+
+// The buffers of an M95010 are as long after both.
+pub fn keeps_lengths() {
+    let mut world = World {
+        state: m95::prepared_state(),
+        cells: &mut [0xFFu8; 128],
+        identification: &mut [],
+        latch: &mut [0u8; 32],
+        counts: &mut [0u16; 8],
+    };
+    asks(5, &mut world, Event::Power, &[3u8, 0, 1, 0, 4], &mut []);
+    check::expect(world.cells.len() == 128);
+    check::expect(world.latch.len() == 32);
+    check::expect(world.counts.len() == 8);
+}
+
+// A world is judged before anything is asked of it: a prepared one is refused by nothing, and one for no device with 1.
+pub fn judges_a_world() {
+    let world = World {
+        state: m95::prepared_state(),
+        cells: &mut [0xFFu8; 512],
+        identification: &mut [0xFFu8; 16],
+        latch: &mut [0u8; 32],
+        counts: &mut [0u16; 32],
+    };
+    check::expect(number_of(m95::judged(1, &world)) == 0);
+    check::expect(number_of(m95::judged(8, &world)) == 1);
 }

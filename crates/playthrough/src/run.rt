@@ -132,6 +132,7 @@ fn play_loaded<R: Files + Print, E: Print>(
     names: Names<'_>,
 )
     requires { Playable device (world_in world.old) }
+    ensures same { AreSame world.new world.old }
 {
     let mut buf = io::large_buffer();
     let Some((mut input, count)) = begin(rt, errors, names.trace, &mut buf) else {
@@ -190,6 +191,7 @@ fn play_lent<R: Files + Print, E: Print>(
     names: Names<'_>,
 )
     requires { lent_refusal device world.old.cells.now world.old.identification.now world.old.latch.now world.old.counts.now ≡ 0 }
+    ensures same { AreSame world.new world.old }
 {
     let cells = &mut *world.cells;
     let identification = &mut *world.identification;

@@ -1,6 +1,7 @@
 // Running a stored vector through the library, and comparing all that is left of it with what the vector says.
 
 ghost use Rattle.std.specs.Prelude.{◌≡◌, ◌≤◌, length};
+ghost use Rattle.rules.specs.Lending.{AreSame};
 
 use crate::vector;
 use crate::vector::{Header, Vector};
@@ -72,6 +73,7 @@ fn is_good(
 ) -> bool
     requires long { (length world.old.cells.now ≡ length blank.old) × (length world.old.identification.now ≡ length factory.old) }
     requires enough { length vector.trace.now ≤ length answers.old }
+    ensures same { AreSame world.new world.old }
 {
     let device = vector.header.device;
     let cells = &mut *world.cells;

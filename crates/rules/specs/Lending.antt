@@ -1,6 +1,6 @@
--- The code's World as the rules see it, and that behind a reference to it each buffer is still the one that the caller lent: a World holds
--- references, and whoever is handed it might put others in their place.
-use Rattle.std.specs.Prelude.{◌≡◌}
+-- The code's World as the rules see it, and that behind a reference to it each buffer is still the one that the caller lent, and as long: a
+-- World holds references, and whoever is handed it might put others in their place.
+use Rattle.std.specs.Prelude.{◌≡◌, length}
 use Rattle.rules.specs.World.{World, world_of}
 use Rattle.rules.specs.declared.world.World.{World as Lending}
 
@@ -13,3 +13,7 @@ AreSame v w =
     × (v.identification.ghost_name ≡ w.identification.ghost_name)
     × (v.latch.ghost_name ≡ w.latch.ghost_name)
     × (v.counts.ghost_name ≡ w.counts.ghost_name)
+    × (length v.cells.now ≡ length w.cells.now)
+    × (length v.identification.now ≡ length w.identification.now)
+    × (length v.latch.now ≡ length w.latch.now)
+    × (length v.counts.now ≡ length w.counts.now)
