@@ -51,6 +51,10 @@ pub record Kept (row : Row) (t : List ℕ) (limit : ℕ) (w₀ : World) (a₀ : 
   pub below : n ≤ limit
   pub same : run limit row t (progress_of 0 0 0 w₀ a₀) ≡ run (limit - n) row t (progress_of 0 at n w a)
 
+-- It holds of the count however that is spelled.
+pub counted : {row : Row} {t : List ℕ} {limit : ℕ} {w₀ : World} {a₀ : List ℕ} {w : World} {a : List ℕ} {at n m : ℕ} → n ≡ m → Kept row t limit w₀ a₀ w a at n → Kept row t limit w₀ a₀ w a at m
+counted {row} {t} {limit} {w₀} {a₀} {w} {a} {at} e k = subst (λ (c : ℕ). Kept row t limit w₀ a₀ w a at c) e k
+
 module _ {row : Row} {t : List ℕ} {limit : ℕ} {w₀ : World} {a₀ : List ℕ} {w : World} {a : List ℕ} {at n : ℕ} (k : Kept row t limit w₀ a₀ w a at n) where
   pub ends-trace : length t ≤ at → progress_of 0 at n w a ≡ run limit row t (progress_of 0 0 0 w₀ a₀)
   unfolding turn

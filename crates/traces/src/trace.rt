@@ -69,23 +69,26 @@ pub fn pin_event(byte: u8) -> Event
 
 // The event of a record of this kind.
 #[tactic(auto, unfolding(rules::specs::Trace::event_at))]
-pub fn event_at(trace: &[u8], at: usize, kind: RecordKind) -> Event
-    requires { (kind_number kind ≡ two trace.now (at + 2)) × (at + 2 + length_of (kind_number kind) ≤ length trace.now) }
+pub fn event_at(trace: &[u8], at: usize, kind: usize) -> Event
+    requires { (kind ≡ two trace.now (at + 2)) × (at + 2 + length_of kind ≤ length trace.now) }
     ensures { result ≡ event_at trace.now at }
 {
-    match kind {
-        RecordKind::Pin => pin_event(trace[at + 4]),
-        RecordKind::Wait => Event::Wait(bits::four(two_at(trace, at + 4), two_at(trace, at + 6))),
-        RecordKind::Power => Event::Power,
+    match RecordKind::try_from(kind) {
+        Ok(RecordKind::Pin) => pin_event(trace[at + 4]),
+        Ok(RecordKind::Wait) => Event::Wait(bits::four(
+            two_at(trace, at + 4),
+            two_at(trace, at + 6),
+        )),
+        Ok(RecordKind::Power) | Err(_) => Event::Power,
     }
 }
 
 // Whether the pin byte of a record is above 9.
-pub fn is_bad_pin(trace: &[u8], at: usize, kind: RecordKind) -> bool
-    requires { at + 2 + length_of (kind_number kind) ≤ length trace.now }
-    ensures { result ≡ bad_pin trace.now at (kind_number kind) }
+pub fn is_bad_pin(trace: &[u8], at: usize, kind: usize) -> bool
+    requires { at + 2 + length_of kind ≤ length trace.now }
+    ensures { result ≡ bad_pin trace.now at kind }
 {
-    matches!(kind, RecordKind::Pin) && 9 < trace[at + 4]
+    matches!(RecordKind::try_from(kind), Ok(RecordKind::Pin)) && 9 < trace[at + 4]
 }
 
 // A record: its event, and the place behind it.
@@ -107,8 +110,8 @@ pub fn record_at(trace: &[u8], at: usize, full: bool) -> Result<Record, Refusal>
         return Err(Refusal::Cut);
     }
     let size = two_at(trace, at);
-    let kind = RecordKind::try_from(two_at(trace, at + 2))?;
-    let right = kind.length();
+    let kind = two_at(trace, at + 2);
+    let right = RecordKind::try_from(kind)?.length();
     if size != right {
         return Err(Refusal::Length);
     }

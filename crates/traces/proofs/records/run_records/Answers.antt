@@ -1,4 +1,4 @@
--- `traces::records::run_records` meets its contract.
+-- `traces::records::run_records` meets its contract. The count of a full turn is handed to `omega`, so that its value counts and not its spelling.
 use mathlib.Core.Path.{refl, ap, ◌∙◌}
 use borrow.Author.Rules.{rules}
 use native.Mathlib.Omega.{arith}
@@ -7,7 +7,7 @@ use Rattle.rules.proofs.Numbers.{some-number}
 use Rattle.rules.proofs.Widths.{widths}
 use Rattle.chip.proofs.Events.{data-alone}
 use Rattle.traces.proofs.Short.{data-small, known-way, bit-alone, still-alone, shift-alone, whole-alone}
-use Rattle.traces.proofs.Running.{ends-trace, ends-limit, ends-refused, goes_on, pin-on, data-pin}
+use Rattle.traces.proofs.Running.{counted, ends-trace, ends-limit, ends-refused, goes_on, pin-on, data-pin}
 use Rattle.traces.proofs.records.run_records.Goals as goal
 use Rattle.traces.proofs.records.run_records.Goals.{else-loop-n-test, then-loop-n-test+then-trace-at}
 
@@ -17,7 +17,7 @@ returns-in-Err-clause-run c =
 
 pub loop-n-preserved-in-Other : goal.loop-n-preserved-in-Other
 loop-n-preserved-in-Other c =
-    (search rules, goes_on c.loop-n.invariant.1 (widths _ c.args.device.wide) c.if-trace-at.false c.loop-n-test.true c.in-Ok.ensures.turn refl)
+    (search rules, counted (omega arith) (goes_on c.loop-n.invariant.1 (widths _ c.args.device.wide) c.if-trace-at.false c.loop-n-test.true c.in-Ok.ensures.turn refl))
 
 pub loop-n-preserved-in-Data : goal.loop-n-preserved-in-Data
 loop-n-preserved-in-Data c =
