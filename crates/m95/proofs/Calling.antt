@@ -1,13 +1,16 @@
 -- The outcome of each call that asks for a whole world, one law for each way through the rules.
-use Rattle.std.specs.Prelude.{Result, Ok, Err, IfOk}
+use Rattle.std.specs.Prelude.{Result, Ok, Err, IfOk, if◌then◌else◌}
 use Prim.Native.Nat.{ℕ, zero, suc, ◌≤◌, ◌<◌}
-use mathlib.Core.Path.{◌≡◌, refl, sym, ◌∙◌, subst}
-use mathlib.Core.Bool.{◌&&◌}
+use mathlib.Core.Path.{◌≡◌, refl, sym, ap, ◌∙◌, subst}
+use mathlib.Core.Bool.{not, ◌&&◌}
 use mathlib.Core.List.{List}
 use native.Mathlib.Omega.{arith}
+use lib.Dec.{eqb}
 use lib.ListN.{length}
 use borrow.Author.Tests.{ne_eqb}
 use Rattle.rules.specs.declared.Row.{Row}
+use Rattle.rules.specs.declared.Event.{Event}
+use Rattle.rules.specs.declared.Level.{Level}
 use Rattle.rules.specs.declared.device.Device.{Device}
 use Rattle.rules.specs.declared.refusal.Refusal.{Refusal}
 use Rattle.rules.specs.World.{bit, World}
@@ -15,7 +18,8 @@ use Rattle.rules.specs.Device.{row_of}
 use Rattle.rules.specs.Instruction.{busy}
 use Rattle.rules.specs.Send.{status_byte}
 use Rattle.rules.specs.Sound.{Sound, Lent}
-use Rattle.rules.specs.Call.{world_refusal, run_outcome}
+use Rattle.rules.specs.Event.{refusal}
+use Rattle.rules.specs.Call.{world_refusal, Replied, replied_as, event_outcome, run_outcome}
 use Rattle.rules.specs.Refused.{number_of}
 use Rattle.rules.proofs.Choice.{number_small}
 use Rattle.rules.proofs.Program.{world-facts}
@@ -39,6 +43,17 @@ pub fine-lent : (device : ℕ) (w : World) (r : Result Device Refusal) → numbe
     → IfOk r (λ (d : Device). Lent d.row w)
 fine-lent device w (Ok d) en ek = subst (λ (row : Row). Lent row w) (sym ek) (fine device w (sym en)).1
 fine-lent device w (Err e) en ek = tt
+
+-- An event that was done was asked of a sound device.
+pub event_sound : (device : ℕ) (w u : World) (e : Event) (r : Result Level Refusal) (a : ℕ) → replied_as (number_of r) a u ≡ event_outcome device w e
+    → IfOk r (λ (q : Level). Sound (row_of device) w)
+unfolding event_outcome
+event_sound device w u e (Err d) a told = tt
+event_sound device w u e (Ok q) a told = go (world_refusal device w) refl (ap (λ (x : Replied). x.number) told)
+  where
+    go : (n : ℕ) → world_refusal device w ≡ n → 0 ≡ (if not (eqb (world_refusal device w) 0) then world_refusal device w else refusal (row_of device) e w) → Sound (row_of device) w
+    go zero z f = (fine device w z).0
+    go (suc n) z f = absurd (omega (arith, rw (z, ne_eqb (suc n) 0 (λ e. absurd (omega (arith, e)))) at f))
 
 -- What holds after a run that is not refused and has room for its answers.
 pub run-course : (device : ℕ) (w : World) (t a : List ℕ) (limit : ℕ) → world_refusal device w ≡ 0 → length t ≤ length a → Course (row_of device) t (length a) limit (run_outcome device w t a limit)

@@ -16,6 +16,7 @@ ghost use Rattle.m95_c.specs.Left.{device_of, buffers_of, buffers_refusal, prepa
 use numbers::{byte_for, device_of, event_of};
 use rules::{Level, Refusal, Stored, World, number_of};
 use state_bytes::{no_state, put_state, state_of};
+use traces::records::run_records;
 
 mod numbers;
 pub mod showing;
@@ -108,15 +109,18 @@ pub extern "C" fn m95_load(device: usize, state: &mut [u8], status: usize, lock:
     }
 }
 
-// An event by its kind and its number, refused first for what is lent.
+// An event by its kind and its number, refused first for what is lent. The event judges the world itself: to judge it here besides would cost a
+// single event half as much again (docs/SPEED.md).
 #[tactic(auto, unfolding(crate::specs::Left::asked, rules::specs::Call::event_outcome))]
 fn replied(device: u8, world: &mut World, kind: usize, value: usize) -> Result<Level, Refusal>
     ensures same { AreSame world.new world.old }
     ensures outcome { outcome_as (number_of result) (answer_of result) (world_in world.new) ≡ asked device (world_in world.old) kind value }
     ensures sound { IfOk result (λ q. Sound (row_of device) (world_in world.old)) }
 {
-    m95::judged(device, world)?;
-    m95::event(device, world, event_of(kind, value)?)
+    match event_of(kind, value) {
+        Ok(event) => m95::event(device, world, event),
+        Err(refusal) => m95::judged(device, world).and(Err(refusal)),
+    }
 }
 
 // One event.
@@ -156,8 +160,8 @@ pub extern "C" fn m95_event(
     }
 }
 
-// A trace, as many of its records as asked for.
-#[tactic(auto, unfolding(crate::specs::Left::run_left))]
+// A trace, as many of its records as asked for. The world is judged once, and its records are run as `m95::run` runs them.
+#[tactic(auto, unfolding(crate::specs::Left::run_left, rules::specs::Call::run_outcome))]
 #[unsafe(no_mangle)]
 pub extern "C" fn m95_run(
     device: usize,
@@ -185,12 +189,14 @@ pub extern "C" fn m95_run(
     };
     *taken = 0;
     *done = 0;
-    if let Err(refusal) = m95::judged(device_of(device), &world) {
-        return refusal.number();
+    match m95::judged(device_of(device), &world) {
+        Ok(known) => {
+            let ran = run_records(known, &mut world, trace, answers, limit);
+            put_state(state, world.state);
+            *taken = ran.taken;
+            *done = ran.done;
+            number_of(ran.ended)
+        }
+        Err(refusal) => refusal.number(),
     }
-    let ran = m95::run(device_of(device), &mut world, trace, answers, limit);
-    put_state(state, world.state);
-    *taken = ran.taken;
-    *done = ran.done;
-    number_of(ran.ended)
 }

@@ -25,13 +25,13 @@ fn sizes_of(device: usize) -> Sizes
     ensures { result ≡ sizes_of device }
 {
     let number = device_of(device);
-    let row = tables::row_of(number);
+    let known = tables::device(number);
     if tables::is_device(number) {
         return Sizes {
-            cells: row.cells,
-            page: row.page,
-            identification: row.identification,
-            pages: tables::page_count(tables::device(number)),
+            cells: known.row.cells,
+            page: known.row.page,
+            identification: known.row.identification,
+            pages: tables::page_count(known),
         };
     }
     Sizes::default()

@@ -1,8 +1,8 @@
 -- What library words find in a list, in the words of the rules; one step of each definition that a loop follows; and the room for ST's code.
 use Rattle.std.specs.Prelude.{Option, Some, None}
-use Prim.Native.Nat.{ℕ, zero, suc, ◌+◌, ◌-◌, ◌*◌, ◌≤◌, ◌<◌}
-use mathlib.Core.Path.{◌≡◌, refl, ap, ◌∙◌}
-use mathlib.Core.Bool.{Bool, true, false, not, cond}
+use Prim.Native.Nat.{ℕ, suc, ◌+◌, ◌-◌, ◌*◌, ◌≤◌, ◌<◌}
+use mathlib.Core.Path.{◌≡◌, ap, ◌∙◌}
+use mathlib.Core.Bool.{true}
 use mathlib.Core.List.{List}
 use native.Mathlib.Nat.{sub-zero}
 use native.Mathlib.Numerals.{add-one}
@@ -10,12 +10,10 @@ use native.Mathlib.Omega.{arith}
 use lib.ListN.{get_or, set, take, drop, length, length-take, length-drop}
 use lib.Dec.{eqb}
 use borrow.Author.Tests.{ne_eqb}
-use Rattle.std.specs.List.{count_by, enumerate_from, zip}
+use Rattle.std.specs.List.{enumerate_from, zip}
 use Rattle.std.proofs.lemmas.List.{get_or-drop, get_or-take, get_or_default}
 use Rattle.std.proofs.lemmas.List.FromFn.{length-enumerate_from, get_or-enumerate_from}
-use Rattle.std.proofs.lemmas.List.Sums.{sum_by_more}
 use Rattle.std.proofs.lemmas.Slice.Zip.{length-zip, get_or-zip}
-use Rattle.rules.specs.World.{number}
 use Rattle.rules.specs.declared.Row.{Row}
 use Rattle.rules.specs.Device.{code}
 use Rattle.rules.specs.Cycle.{written, filled, recounted}
@@ -51,19 +49,18 @@ place-at page latch n i byte mark long h =
       its_mark ∙ get_or-drop page latch n mark ∙ get_or_default latch (page + n) mark 0 (omega arith),
     )
 
--- The cells other than FFh in a list of n cells are as many as the rules count, who go from place to place.
-one_of : (b : Bool) → cond b 1 0 ≡ number b
-one_of true = refl
-one_of false = refl
+-- An item of a page of the cells, and counting one cell more.
+pub item-at : (cells : List ℕ) (a k i : ℕ) → i < length (take k (drop a cells)) → get_or (take k (drop a cells)) i 0 ≡ get_or cells (a + i) 0
+item-at cells a k i h = get_or-take k (drop a cells) i 0 (omega (arith, h, length-take k (drop a cells))) ∙ get_or-drop a cells i 0
 
-pub filled-counted : (n a : ℕ) (cells : List ℕ) → a + n ≤ length cells → count_by (λ x. not (eqb x 0xFF)) (take n (drop a cells)) ≡ filled n a cells
-unfolding filled
-filled-counted zero a cells h = refl
-filled-counted (suc n) a cells h =
-    let counts : ℕ → Bool = λ x. not (eqb x 0xFF) in
-    let more = sum_by_more (λ x. cond (counts x) 1 0) (drop a cells) n 0 (simp length-drop (omega arith)) in
-    rw (add-one n, get_or-drop a cells n 0, one_of (counts (get_or cells (a + n) 0))) at more
-    ∙ ap (λ k. k + number (counts (get_or cells (a + n) 0))) (filled-counted n a cells (omega arith))
+module _ (cells : List ℕ) (a n : ℕ) where
+  pub filled_more : (get_or cells (a + n) 0 ≡ 0xFF → ⊥) → filled (n + 1) a cells ≡ filled n a cells + 1
+  unfolding filled
+  filled_more h = rw (add-one n, ne_eqb _ _ h)
+
+  pub filled-kept : get_or cells (a + n) 0 ≡ 0xFF → filled (n + 1) a cells ≡ filled n a cells
+  unfolding filled
+  filled-kept h = rw (add-one n, h) (omega arith)
 
 -- One page more.
 pub recounted-next : (n : ℕ) (row : Row) (cells counts : List ℕ) → recounted_to (n + 1) row cells counts ≡ recounted row (n * row.page) cells (recounted_to n row cells counts)

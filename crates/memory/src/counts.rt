@@ -12,10 +12,14 @@ pub fn filled_in(row: Row, start: usize, cells: &[u8]) -> usize
     requires { start + row.page ≤ length cells.now }
     ensures { result ≡ filled row.page start cells.now }
 {
-    cells[start..start + row.page]
-        .iter()
-        .filter(|cell| **cell != 0xFF)
-        .count()
+    let mut n: usize = 0;
+    for cell in &cells[start..start + row.page] {
+        let is_filled = *cell != 0xFF;
+        if is_filled {
+            n += 1;
+        }
+    }
+    n
 }
 
 // Whether that page has another count than its own.

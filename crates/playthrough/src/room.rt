@@ -49,7 +49,8 @@ fn ask_lent<R: Files + Print, E: Print>(
     tell_room(rt, errors, device, cells, counts);
 }
 
-// Prints it for a device, in buffers of which as much is lent as the device has cells and pages.
+// Prints it for a device, in buffers of which as much is lent as the device has cells and pages. Its room on the stack is its own, as that of a run is.
+#[inline(never)]
 #[tactic(auto, using(rules::proofs::Widths::room))]
 pub fn ask_device<R: Files + Print, E: Print>(rt: &R, errors: &E, device: u8, chip: &[u8])
     requires { is_device device ≡ true }

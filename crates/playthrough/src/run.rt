@@ -217,7 +217,9 @@ fn play_lent<R: Files + Print, E: Print>(
     play_loaded(rt, errors, device, world, names);
 }
 
-// Plays the trace on a device, in as much of the room as it has cells and pages.
+// Plays the trace on a device, in as much of the room as it has cells and pages. That room is on the stack, and not there for a question as well: it
+// is a function of its own when it is compiled, too.
+#[inline(never)]
 #[tactic(auto, using(rules::proofs::Widths::room))]
 pub fn play_device<R: Files + Print, E: Print>(rt: &R, errors: &E, device: u8, names: Names<'_>)
     requires { is_device device ≡ true }
