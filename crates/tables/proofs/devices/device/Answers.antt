@@ -7,7 +7,7 @@ use Rattle.tables.proofs.devices.device.Goals as goal
 
 pub invariant_of-result : goal.invariant_of-result
 invariant_of-result c =
-    let wide = subst (λ row. is_wide row ≡ true) (sym c.row_of.ensures) (table-wide c.args.number) in
+    let wide = subst (λ row. is_wide row ≡ true) (sym c.row_of.ensures) (table-wide _) in
     let known = widths c.row_of.result wide in
     record {
       wide = wide;
