@@ -1,2 +1,3 @@
--- The laws that the proofs of the functions cite.
+-- The laws that the proofs of the functions cite, and one that none cites any more.
 pub mod Putting
+pub mod Named

@@ -2,3 +2,4 @@
 pub mod Reading
 pub mod Running
 pub mod Short
+pub mod Named

@@ -1,13 +1,13 @@
 -- Reading a record, one law for each way through the rules.
 use Rattle.std.specs.Prelude.{if◌then◌else◌}
-use Prim.Native.Nat.{ℕ, ◌+◌, ◌-◌, ◌*◌, ◌≤◌}
+use Prim.Native.Nat.{ℕ, ◌+◌, ◌-◌, ◌*◌}
 use mathlib.Core.Path.{◌≡◌, refl, sym, ap, ◌∙◌}
 use mathlib.Core.Bool.{Bool, true, false, not}
 use mathlib.Core.List.{List, []}
 use native.Mathlib.Omega.{arith}
 use lib.ListN.{get_or, length}
 use lib.Dec.{eqb, leb, ltb}
-use borrow.Author.Tests.{eq-eqb, ne_eqb, le-ltb}
+use borrow.Author.Tests.{ne_eqb}
 use Rattle.rules.specs.declared.Row.{Row}
 use Rattle.rules.specs.declared.Event.{Event}
 use Rattle.rules.specs.World.{World, world_of}
@@ -30,17 +30,6 @@ module _ (t : List ℕ) (at : ℕ) {kind : ℕ} (ek : kind ≡ two t (at + 2)) w
   pub event-power : (kind ≡ 1 → ⊥) → (kind ≡ 2 → ⊥) → Event.Power ≡ event_at t at
   unfolding event_at
   event-power f g = rw (← ek, ne_eqb kind 1 f, ne_eqb kind 2 g)
-
--- Why a record is refused by its form.
-module _ (t : List ℕ) (at : ℕ) (full : Bool) where
-  module _ {size kind right : ℕ} (es : size ≡ two t at) (ek : kind ≡ two t (at + 2)) (er : right ≡ length_of kind) (h4 : 4 ≤ length t - at) where
-    right-at : length_of (two t (at + 2)) ≡ right
-    right-at = sym (er ∙ ap length_of ek)
-
-    module _ (r : right ≡ 0 → ⊥) (z : size ≡ right) (l : 2 + right ≤ length t - at) {bad : Bool} (eb : bad ≡ bad_pin t at kind) where
-      past : (n : ℕ) → (if bad then 9 else (if full then 10 else 0)) ≡ n → form_refusal t at full ≡ n
-      unfolding form_refusal
-      past n f = rw (le-ltb (length t - at) 4 h4, right-at, ne_eqb right 0 r, ← es, z, eq-eqb right right refl, le-ltb (length t - at) (2 + right) l, ← ek, ← eb) f
 
 -- A record is refused with what its form is; where that is nothing, with what its event is.
 form-first : (a b c d e f : Bool) (n : ℕ) →

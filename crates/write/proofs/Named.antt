@@ -34,6 +34,10 @@ module _ (row : Row) (s : State) {done : Bool} (ed : done ≡ is_done row s) whe
     unfolding judged
     judge-latch e = rw (yes, runs-at false (not-true c.runs e), ef)
 
+module _ (s : State) (n : ℕ) {c : Change} (ec : c ≡ changes s.cycle.kind) where
+  pub ends_at : (b : Bool) → (c.runs && leb s.place.left n) ≡ b → ends n s ≡ b
+  ends_at b h = ap (λ (x : Change). x.runs && leb s.place.left n) (sym ec) ∙ h
+
 -- No cycle writes to both.
 one_list : (k : Kind) → (changes k).cells ≡ true → (changes k).identification ≡ false
 one_list Kind.None e = refl
